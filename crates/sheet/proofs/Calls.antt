@@ -22,7 +22,8 @@ use Rattle.sheet.specs.Causes.{checked, first-of, _if_, refused-if}
 use Rattle.sheet.specs.Numbers.{numbered}
 use Rattle.sheet.specs.Rows.{is-of, lookup, raised, row}
 use Rattle.sheet.specs.Sheets.{book-of}
-use Rattle.sheet.specs.Tables.{Changes, Performs, Sized, rows-of, table-book}
+use Rattle.sheet.specs.Changes.{Changes, Performs}
+use Rattle.sheet.specs.Tables.{Sized, rows-of, table-book}
 use Rattle.sheet.specs.declared.fault.Fault.{Fault}
 use Rattle.sheet.specs.declared.fault.Fault.the-variants.{CountOverflow, Full, NoRow}
 use Rattle.sheet.specs.declared.row.Row.{Row}

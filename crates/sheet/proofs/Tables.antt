@@ -17,7 +17,8 @@ use Rattle.std.specs.declared.result.Result.the-variants.{Ok, Err}
 use Rattle.std.specs.Results.{isOk}
 use Rattle.sheet.specs.Books.{row-at, with-rows}
 use Rattle.sheet.specs.Rows.{blank, raised}
-use Rattle.sheet.specs.Tables.{Changes, Sized, rows-of, table-book}
+use Rattle.sheet.specs.Changes.{Changes}
+use Rattle.sheet.specs.Tables.{Sized, rows-of, table-book}
 use Rattle.sheet.specs.declared.fault.Fault.{Fault}
 use Rattle.sheet.specs.declared.row.Row.{Row}
 use Rattle.sheet.specs.declared.table.Table.{Table}

@@ -12,15 +12,19 @@ pub record Book : Type 0 where
   pub k : ℕ
   pub rows : List Row
 
+-- the book of a newly made sheet
 abbrev pub new-book : Book
 new-book = record { n = 1; k = 1; rows = [] }
 
+-- the book with another limit
 abbrev pub with-limit : Book → ℕ → Book
 with-limit b k = record { n = b .n; k = k; rows = b .rows }
 
+-- the book with other rows
 abbrev pub with-rows : Book → List Row → Book
 with-rows b rs = record { n = b .n; k = b .k; rows = rs }
 
+-- the most alarms, levels and rows
 abbrev pub max-alarms : ℕ
 max-alarms = 64
 
@@ -30,6 +34,7 @@ max-limit = 8
 abbrev pub max-rows : ℕ
 max-rows = 512
 
+-- the row at place i, counted from 0
 abbrev pub row-at : Book → ℕ → Row
 row-at b i = getD (b .rows) i blank
 
@@ -37,6 +42,7 @@ row-at b i = getD (b .rows) i blank
 abbrev pub Known : ℕ → Row → Type 0
 Known n r = (r .first < n) × (r .second < n) × (r .first ≡ r .second → ⊥)
 
+-- a count that the runtime's counter can truly have shown
 abbrev pub True-count : Row → Type 0
 True-count r = (1 ≤ r .count) × (r .count ≤ max-count)
 
@@ -52,9 +58,11 @@ Limit-in-range b = (1 ≤ b .k) × (b .k ≤ max-limit)
 abbrev pub Rows-fit : Book → Type 0
 Rows-fit b = length (b .rows) ≤ max-rows
 
+-- each row names two different alarms below n
 abbrev pub Alarms-known : Book → Type 0
 Alarms-known b = (i : ℕ) → i < length (b .rows) → Known (b .n) (row-at b i)
 
+-- each row has a true count
 abbrev pub Counts-true : Book → Type 0
 Counts-true b = (i : ℕ) → i < length (b .rows) → True-count (row-at b i)
 

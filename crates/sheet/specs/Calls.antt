@@ -23,6 +23,7 @@ pub data Call : Type 0 where
   strikes : (first second : ℕ) → Call
   confines : (k : ℕ) → Call
 
+-- the alarm is not below n
 abbrev pub unknown : Book → ℕ → Bool
 unknown b u = leb (b .n) u
 
@@ -31,16 +32,19 @@ abbrev pub overflows : ℕ → Option ℕ → Bool
 overflows c (Some m) = ltb max-count (m + c)
 overflows c None = false
 
+-- what can be wrong with a limit,
 abbrev pub limit-causes : ℕ → List Cause
 limit-causes k = (Limit if beyond max-limit k) ∷ []
 
+-- with a pair,
 abbrev pub pair-causes : Book → ℕ → ℕ → List Cause
 pair-causes b u v = (UnknownAlarm if unknown b u || unknown b v) ∷ (SameAlarm if eqb u v) ∷ []
 
+-- with a count,
 abbrev pub count-causes : ℕ → List Cause
 count-causes c = (ZeroCount if eqb c 0) ∷ (PinnedCount if ltb max-count c) ∷ []
 
--- by the count in the pair's row, if it has one, and the number of rows that stand
+-- and with c more for a pair, by the count in its row, if it has one, and the number of rows that stand
 abbrev pub row-causes : Option ℕ → ℕ → ℕ → List Cause
 row-causes o size c = (CountOverflow if overflows c o) ∷ (Full if not (isSome o) && leb max-rows size) ∷ []
 
@@ -51,6 +55,7 @@ causes b (notes u v c) = pair-causes b u v ++ (count-causes c ++ row-causes (loo
 causes b (strikes u v) = pair-causes b u v ++ ((NoRow if not (isSome (lookup u v (b .rows)))) ∷ [])
 causes b (confines k) = limit-causes k
 
+-- the fault that refuses a call, if any does
 abbrev pub refusal : Book → Call → Option Fault
 refusal b c = first-of (causes b c)
 
@@ -72,7 +77,9 @@ after b (c ∷ cs) = after (next b c) cs
 
 -- one call at the book b: its answer, and the book after it
 pub record Does (b : Book) (c : Call) (r : Result (Unit {0}) ℕ) (b′ : Book) : Type 0 where
+  -- accepted, or refused with the number of the first cause that applies
   pub answered : r ≡ numbered (checked (refusal b c) tt)
+  -- the book that the call leaves, or the same where it is refused
   pub leaves : b′ ≡ next b c
 
 -- the two totals of an alarm, or the refusal

@@ -15,6 +15,7 @@ pub record Cause : Type 0 where
   pub applies : Bool
 
 infix 20 _if_
+-- the fault f, which applies where t holds
 abbrev pub _if_ : Fault → Bool → Cause
 f if t = record { fault = f; applies = t }
 

@@ -14,6 +14,7 @@ use Rattle.sheet.specs.declared.fault.Fault.{Fault}
 abbrev pub count-of : ℕ → ℕ → Book → ℕ
 count-of u v b = valueOr (lookup u v (b .rows)) 0
 
+-- nothing refuses the call
 abbrev pub Accepts : Book → Call → Type 0
 Accepts b c = refusal b c ≡ None
 

@@ -13,6 +13,7 @@ use Rattle.sheet.specs.declared.row.Row.{Row}
 abbrev pub max-count : ℕ
 max-count = 32766
 
+-- the row of the pair u→v with the count c
 abbrev pub row : ℕ → ℕ → ℕ → Row
 row u v c = record { first = u; second = v; count = c }
 
@@ -24,6 +25,7 @@ blank = row 0 0 0
 abbrev pub is-of : ℕ → ℕ → Row → Bool
 is-of u v r = eqb (r .first) u && eqb (r .second) v
 
+-- the row with c more
 abbrev pub raised : ℕ → Row → Row
 raised c r = row (r .first) (r .second) (r .count + c)
 
