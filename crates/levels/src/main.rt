@@ -1,8 +1,18 @@
-// Enters the ring of three pairs by calls, and prints what each call answered, each alarm's totals and the rows.
+// Enters the ring of three pairs by calls, and prints what each call answered, each alarm's totals, the rows, and what a placement costs.
 ghost use Rattle.levels.specs.Steps.{call-of};
 ghost use Rattle.sheet.specs.Calls.{Does};
 ghost use Rattle.sheet.specs.Numbers.{numbered};
 ghost use Rattle.sheet.specs.Sheets.{book-of};
+use charge::Charge;
+use charge::Doubling;
+use charge::DoublingCharge;
+use charge::OwnRow;
+use charge::OwnRowCharge;
+use charge::Plain;
+use charge::PlainCharge;
+use charge::Steep;
+use charge::SteepCharge;
+use charge::price;
 use sheet::Fault;
 use sheet::Row;
 use sheet::Sheet;
@@ -83,6 +93,32 @@ fn print_rows(rt: &LibcRuntime, sheet: &Sheet) -> io::Result<()> {
     Ok(())
 }
 
+// Prints what the placement costs under a charge.
+fn print_price<C: Charge>(
+    rt: &LibcRuntime,
+    sheet: &Sheet,
+    levels: &[u8],
+    name: &str,
+    charge: &C,
+) -> io::Result<()> {
+    match price(sheet, charge, levels) {
+        Ok(cost) => println!(rt, "{name} charge: cost {cost}"),
+        Err(fault) => {
+            let number = fault.number();
+            println!(rt, "{name} charge: refused {number}")
+        }
+    }
+}
+
+// Prints what the placement costs under each of the four charges.
+fn print_prices(rt: &LibcRuntime, sheet: &Sheet, levels: &[u8]) -> io::Result<()> {
+    println!(rt, "levels {levels:?}")?;
+    print_price(rt, sheet, levels, "plain", &Plain)?;
+    print_price(rt, sheet, levels, "doubling", &Doubling)?;
+    print_price(rt, sheet, levels, "steep", &Steep)?;
+    print_price(rt, sheet, levels, "own", &OwnRow::new())
+}
+
 fn main(rt: LibcRuntime) -> io::Result<()> {
     let steps = [
         Step::Open {
@@ -122,5 +158,6 @@ fn main(rt: LibcRuntime) -> io::Result<()> {
     let mut sheet = Sheet::new();
     enter(&rt, &mut sheet, &steps)?;
     print_standings(&rt, &sheet)?;
-    print_rows(&rt, &sheet)
+    print_rows(&rt, &sheet)?;
+    print_prices(&rt, &sheet, &[0, 1, 2])
 }

@@ -10,7 +10,7 @@ use Rattle.std.specs.Holes.{removed}
 use Rattle.std.specs.declared.option.Option.the-variants.{Some, None}
 use Rattle.std.proofs.shelf.Tests.{cond-true, cond-false, not-from-true, not-from-false}
 use Rattle.std.proofs.shelf.Ways.{tells}
-use Rattle.sheet.specs.Rows.{blank, is-of, lookup, raise-at, raised, row, without}
+use Rattle.sheet.specs.Rows.{blank, is-of, lookup, raise-at, raised, without}
 use Rattle.sheet.specs.declared.row.Row.{Row}
 
 pub is-of-parts : (u v : ℕ) (r : Row) → is-of u v r ≡ true → (r .first ≡ u) × (r .second ≡ v)

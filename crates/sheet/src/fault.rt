@@ -22,6 +22,16 @@ pub enum Fault {
     CountOverflow,
     // A new pair while 512 rows stand.
     Full,
+    // The level buffer is shorter than the number of alarms.
+    ShortLevels,
+    // A charge of other than eight numbers.
+    ChargeLength,
+    // A charge with a number above 200.
+    ChargeTooLarge,
+    // A charge that is not convex.
+    NotConvex,
+    // A level is not below the limit.
+    LevelBeyondLimit,
 }
 
 impl Fault {
@@ -40,6 +50,11 @@ impl Fault {
             Fault::NoRow => 16,
             Fault::CountOverflow => 17,
             Fault::Full => 18,
+            Fault::ShortLevels => 20,
+            Fault::ChargeLength => 22,
+            Fault::ChargeTooLarge => 23,
+            Fault::NotConvex => 24,
+            Fault::LevelBeyondLimit => 26,
         }
     }
 }

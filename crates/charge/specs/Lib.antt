@@ -1,0 +1,10 @@
+pub mod Below
+pub mod Charges
+pub mod Fits
+pub mod OwnRows
+pub mod Costs
+pub mod Prices
+pub mod Best
+pub mod Strands
+pub mod Laws
+pub mod Examples
