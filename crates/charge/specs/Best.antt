@@ -13,7 +13,7 @@ Cheapest b p l = (q : Levels) → Placement b q → cost b p l ≤ cost b p q
 abbrev pub Least : Book → List ℕ → Levels → Type 0
 Least b p l = (q : Levels) → Placement b q → cost b p q ≡ cost b p l → (v : ℕ) → v < b .n → l v ≤ q v
 
--- a placement that none undercuts, and that no other as cheap goes below at any alarm
+-- a cheapest placement in which each alarm stands as high as in any other of that cost
 pub record Best (b : Book) (p : List ℕ) (l : Levels) : Type 0 where
   pub placed : Placement b l
   pub cheapest : Cheapest b p l

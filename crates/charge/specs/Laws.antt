@@ -12,8 +12,14 @@ use Rattle.charge.specs.Best.{Best}
 use Rattle.charge.specs.Charges.{Convex, Fair, Small, charge-at, distances, max-charge, plain}
 use Rattle.charge.specs.Costs.{Levels, Placement, cost}
 use Rattle.charge.specs.Fits.{convex, small}
+use Rattle.charge.specs.OwnRows.{row-of}
 use Rattle.charge.specs.Prices.{placed, priced}
 use Rattle.charge.specs.Strands.{back, second-difference}
+use Rattle.charge.specs.declared.own_row.OwnRow.{OwnRow}
+
+-- Every own row that can exist has eight numbers of at most 200 and is convex.
+abbrev pub Own-rows-fair : Type 0
+Own-rows-fair = (own : OwnRow) → Fair (row-of own)
 
 -- A charge never falls as the distance grows.
 abbrev pub Non-decreasing : Type 0

@@ -1,8 +1,9 @@
 // What the definitions of charges and costs come to, as contracts of functions that compute nothing.
-ghost use Rattle.charge.specs.Laws.{Best-unique, Cost-bounded, Differences-whole, Equal-levels-cost, Non-decreasing, Others-ignored, Placed-decides, Plain-is-agony, Rest-ignored, Strands-add-up, Tests-decide};
+ghost use Rattle.charge.specs.Laws.{Best-unique, Cost-bounded, Differences-whole, Equal-levels-cost, Non-decreasing, Others-ignored, Own-rows-fair, Placed-decides, Plain-is-agony, Rest-ignored, Strands-add-up, Tests-decide};
 
 // The laws of charges hold.
 pub fn charge_laws()
+    ensures own_rows_fair { λ _. ⌜ Own-rows-fair ⌝ }
     ensures non_decreasing { λ _. ⌜ Non-decreasing ⌝ }
     ensures differences_whole { λ _. ⌜ Differences-whole ⌝ }
     ensures strands_add_up { λ _. ⌜ Strands-add-up ⌝ }

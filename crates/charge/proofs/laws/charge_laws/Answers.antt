@@ -5,6 +5,7 @@ use Rattle.charge.proofs.laws.charge_laws.Needs as need
 
 pub returns : need.returns
 returns c = record {
+  own-rows-fair = λ own. record { long = own .long; small = own .small; convex = own .convex };
   non-decreasing = non-decreasing;
   differences-whole = differences-whole;
   strands-add-up = strands-add-up;
