@@ -1,5 +1,5 @@
 -- A small sheet's best placement, by trying every placement. Assumes nothing.
-use mathlib.Core.Path.{_≡_, _∙_}
+use mathlib.Core.Path.{_≡_, _∙_, subst}
 use mathlib.Core.Bool.{Bool, true, _&&_, _||_}
 use mathlib.Core.List.{List, [], _∷_, map}
 use mathlib.Core.Logic.{_⊎_, inl, inr, ⊎-elim}
@@ -13,11 +13,11 @@ use Rattle.std.proofs.shelf.Counted.{getD-map-counting, length-map-counting}
 use Rattle.std.proofs.shelf.Elements.{all-from-getD}
 use Rattle.std.proofs.shelf.Tests.{and-parts, eqb-true, ltb-true, or-cases}
 use Rattle.sheet.specs.Books.{Alarms-known, Book, new-book}
-use Rattle.sheet.specs.Calls.{Call, after}
+use Rattle.sheet.specs.Calls.{after}
 use Rattle.sheet.proofs.BookLaws.{grown-sound}
 use Rattle.charge.specs.Below.{all-below}
 use Rattle.charge.specs.Costs.{Levels, Placement, cost, listed}
-use Rattle.charge.specs.Examples.{Gives}
+use Rattle.charge.specs.Examples.{Gives, entry}
 use Rattle.charge.specs.Prices.{placed}
 use Rattle.charge.proofs.Below.{decides-all-below, decides-leb}
 use Rattle.charge.proofs.Costs.{others-ignored, placed-decides}
@@ -73,15 +73,15 @@ module _ (b : Book) (p ls : List ℕ) (known : Alarms-known b) (every : all-list
       inr (eqb-true (cost b p (listed ls)) (cost b p (listed ms)) (parts .0) ∙ same-cost, λ v h. omega (arith, each .0 (parts .1) v h, cut-at (b .n) q v h)))
       (or-cases (ltb (cost b p (listed ls)) (cost b p (listed ms))) _ passes)
 
--- What passes the test is best. The book is one that some calls leave, so that its rows name known alarms.
-pub gives : (calls : List Call) (p ls : List ℕ) (c : ℕ) → tried (after new-book calls) p ls c ≡ true → Gives calls p ls c
-gives calls p ls c t =
-    let b = after new-book calls in
-    let known = grown-sound calls .known in
+-- What passes the test is best. That the book was entered by calls gives that its rows name known alarms.
+pub gives : (b : Book) (p ls : List ℕ) (c : ℕ) → after new-book (entry b) ≡ b → tried b p ls c ≡ true → Gives b p ls c
+gives b p ls c entered t =
+    let known = subst Alarms-known entered (grown-sound (entry b) .known) in
     let one = and-parts (placed b (listed ls)) (eqb (cost b p (listed ls)) c && all-lists (b .n) (b .k) (no-better b p ls)) t in
     let two = and-parts (eqb (cost b p (listed ls)) c) (all-lists (b .n) (b .k) (no-better b p ls)) (one .1) in
     let try = beats b p ls known (two .1) in
     record {
+      entered = entered;
       best = record {
         placed = placed-decides b (listed ls) .0 (one .0);
         cheapest = λ q low. ⊎-elim (λ h. omega arith) (λ h. omega (arith, h .0)) (try q low);

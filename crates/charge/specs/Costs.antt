@@ -13,7 +13,7 @@ use Rattle.charge.specs.Charges.{charge-at}
 abbrev pub Levels : Type 0
 Levels = ℕ → ℕ
 
--- the levels that a buffer holds: its entry v is the level of the alarm v
+-- the levels that a buffer holds: its entry v is the level of the alarm v (0 behind its end, which no call reads)
 abbrev pub listed : List ℕ → Levels
 listed ls v = getD ls v 0
 

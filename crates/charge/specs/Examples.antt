@@ -1,40 +1,44 @@
 -- The worked examples: which levels are best for some small sheets, and what they cost.
 use mathlib.Core.Path.{_≡_}
-use mathlib.Core.List.{List, [], _∷_}
+use mathlib.Core.List.{List, [], _∷_, map}
 use Prim.Native.Nat.{ℕ}
-use Rattle.sheet.specs.Books.{new-book}
+use Rattle.sheet.specs.Books.{Book, new-book}
 use Rattle.sheet.specs.Calls.{Call, after, notes, opens}
+use Rattle.sheet.specs.Rows.{row}
+use Rattle.sheet.specs.declared.row.Row.{Row}
 use Rattle.charge.specs.Best.{Best}
 use Rattle.charge.specs.Charges.{doubling, plain, steep}
 use Rattle.charge.specs.Costs.{cost, listed}
 
--- After these calls on a new sheet, the levels ls are the best placement under the charge p, and cost c.
-pub record Gives (calls : List Call) (p ls : List ℕ) (c : ℕ) : Type 0 where
-  pub best : Best (after new-book calls) p (listed ls)
-  pub costs : cost (after new-book calls) p (listed ls) ≡ c
+-- the calls that enter a book into a sheet: an open, and a note for each row
+abbrev pub entry : Book → List Call
+entry b = opens (b .n) (b .k) ∷ map (λ r. notes (r .first) (r .second) (r .count)) (b .rows)
 
--- the ring 0→1 counted 5, 1→2 counted 4 and 2→0 counted c, within the limit k
-abbrev pub ring-closed-by : ℕ → ℕ → List Call
-ring-closed-by c k = opens 3 k ∷ notes 0 1 5 ∷ notes 1 2 4 ∷ notes 2 0 c ∷ []
+-- For the book b and the charge p, the levels ls are the best placement, and cost c.
+pub record Gives (b : Book) (p ls : List ℕ) (c : ℕ) : Type 0 where
+  -- the book is one that a sheet can have: entered by calls, none of which is refused
+  pub entered : after new-book (entry b) ≡ b
+  pub best : Best b p (listed ls)
+  pub costs : cost b p (listed ls) ≡ c
 
-abbrev pub ring : ℕ → List Call
-ring k = ring-closed-by 1 k
+-- n alarms, the limit k and these rows
+abbrev pub book : ℕ → ℕ → List Row → Book
+book n k rs = record { n = n; k = k; rows = rs }
 
--- 0→1 counted 1 and 1→2 counted 9, within the limit 2
-abbrev pub chain : List Call
-chain = opens 3 2 ∷ notes 0 1 1 ∷ notes 1 2 9 ∷ []
+-- the ring 0→1 counted 5, 1→2 counted 4, and 2→0 counted c
+abbrev pub ring-closed-by : ℕ → List Row
+ring-closed-by c = row 0 1 5 ∷ row 1 2 4 ∷ row 2 0 c ∷ []
 
--- 0→1 and 1→0 counted 7 each, within the limit 8
-abbrev pub two-way : List Call
-two-way = opens 2 8 ∷ notes 0 1 7 ∷ notes 1 0 7 ∷ []
+abbrev pub ring : List Row
+ring = ring-closed-by 1
 
 pub record Worked-examples : Type 0 where
-  pub ring-in-three : Gives (ring 3) plain (0 ∷ 1 ∷ 2 ∷ []) 3
-  pub ring-in-two : Gives (ring 2) plain (0 ∷ 1 ∷ 1 ∷ []) 6
-  pub ring-in-one : Gives (ring 1) plain (0 ∷ 0 ∷ 0 ∷ []) 10
-  pub ring-steep : Gives (ring 3) steep (0 ∷ 1 ∷ 2 ∷ []) 6
-  pub ring-doubling : Gives (ring 3) doubling (0 ∷ 1 ∷ 2 ∷ []) 4
-  pub heavier-ring : Gives (ring-closed-by 4 3) plain (0 ∷ 1 ∷ 0 ∷ []) 12
-  pub chain-in-two : Gives chain plain (0 ∷ 0 ∷ 1 ∷ []) 1
-  pub no-rows : Gives (opens 2 4 ∷ []) plain (0 ∷ 0 ∷ []) 0
-  pub both-ways : Gives two-way plain (0 ∷ 0 ∷ []) 14
+  pub ring-in-three : Gives (book 3 3 ring) plain (0 ∷ 1 ∷ 2 ∷ []) 3
+  pub ring-in-two : Gives (book 3 2 ring) plain (0 ∷ 1 ∷ 1 ∷ []) 6
+  pub ring-in-one : Gives (book 3 1 ring) plain (0 ∷ 0 ∷ 0 ∷ []) 10
+  pub ring-steep : Gives (book 3 3 ring) steep (0 ∷ 1 ∷ 2 ∷ []) 6
+  pub ring-doubling : Gives (book 3 3 ring) doubling (0 ∷ 1 ∷ 2 ∷ []) 4
+  pub heavier-ring : Gives (book 3 3 (ring-closed-by 4)) plain (0 ∷ 1 ∷ 0 ∷ []) 12
+  pub chain-in-two : Gives (book 3 2 (row 0 1 1 ∷ row 1 2 9 ∷ [])) plain (0 ∷ 0 ∷ 1 ∷ []) 1
+  pub no-rows : Gives (book 2 4 []) plain (0 ∷ 0 ∷ []) 0
+  pub both-ways : Gives (book 2 8 (row 0 1 7 ∷ row 1 0 7 ∷ [])) plain (0 ∷ 0 ∷ []) 14

@@ -1,4 +1,5 @@
--- A charge as a sum of strands: each row has a strand j for each level, with room in proportion to how much p bends at j.
+-- A charge as a sum of strands. A row has a strand j for each level j below the limit, and what a strand can carry, its room, is
+-- the row's count times the second difference of the charge at j.
 use mathlib.Core.Bool.{cond}
 use mathlib.Core.List.{List}
 use Prim.Native.Nat.{ℕ, _+_, _-_, _*_}
