@@ -1,4 +1,6 @@
 // Charges, and what a placement costs under one.
+#![tactic(auto)]
+
 mod charges;
 mod examples;
 mod laws;

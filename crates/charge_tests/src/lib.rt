@@ -1,4 +1,6 @@
 // Tests of the charges, of fit and of price, at the edges of their rules.
+#![tactic(auto)]
+
 #[cfg(test)]
 mod tests {
     use charge::{Charge, Doubling, OwnRow, Plain, Steep, price};

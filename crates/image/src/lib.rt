@@ -1,4 +1,6 @@
 // Loads a sheet from an image, and hands out the names in it.
+#![tactic(auto)]
+
 mod field;
 mod loading;
 mod names;

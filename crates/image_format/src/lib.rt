@@ -1,4 +1,6 @@
 // The format of an image: its fields, which images are acceptable, and why and where others are refused.
+#![tactic(auto)]
+
 mod fault;
 mod kinds;
 mod laws;

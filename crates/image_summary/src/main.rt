@@ -1,4 +1,6 @@
 // Reads an image from standard input, and prints what it holds, or why and where it is refused.
+#![tactic(auto)]
+
 ghost use Rattle.std.specs.Prelude.{◌≡◌, is_ok, Decides};
 ghost use Rattle.sheet.specs.Numbers.{numbered};
 ghost use Rattle.sheet.specs.Sheets.{book_of};

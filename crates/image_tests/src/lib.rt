@@ -1,4 +1,6 @@
 // Tests of loading an image, of the names in it, and of the line that tells a refusal.
+#![tactic(auto)]
+
 #[cfg(test)]
 mod tests {
     use image::{Image, load};

@@ -1,4 +1,6 @@
 // Loads images, whole ones and ones with a fault of every kind, and prints what each load answered.
+#![tactic(auto)]
+
 mod cases;
 mod images;
 

@@ -1,4 +1,6 @@
 // Enters the ring of three pairs by calls, and prints what each call answered, each alarm's totals, the rows, and what a placement costs.
+#![tactic(auto)]
+
 ghost use Rattle.levels.specs.Steps.{call_of};
 ghost use Rattle.sheet.specs.Calls.{Does};
 ghost use Rattle.sheet.specs.Numbers.{numbered};

@@ -1,4 +1,6 @@
 // What is written of an image: the complaint about a broken one.
+#![tactic(auto)]
+
 mod complaint;
 mod laws;
 mod text;

@@ -1,4 +1,6 @@
 // The sheet of counted alarm pairs, with its calls.
+#![tactic(auto)]
+
 mod fault;
 mod laws;
 mod row;

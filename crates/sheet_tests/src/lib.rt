@@ -1,4 +1,6 @@
 // Tests of the sheet's calls, at the edges of their rules.
+#![tactic(auto)]
+
 #[cfg(test)]
 mod tests {
     use sheet::{Fault, Row, Sheet};
