@@ -46,15 +46,20 @@ sound_sheet s = record {
 
 -- the facts that a sheet carries, as they are owed of a changed table
 abbrev Facts : Table → Type 0
-Facts t =
-    Sized t × (AlarmsInRange (table_book t) × (LimitInRange (table_book t)
-    × (AlarmsKnown (table_book t) × (CountsTrue (table_book t) × (PairsOnce (table_book t) × Unit {0})))))
+Facts t = record {
+  sized : Sized t;
+  alarms : AlarmsInRange (table_book t);
+  limit : LimitInRange (table_book t);
+  known : AlarmsKnown (table_book t);
+  counts : CountsTrue (table_book t);
+  once : PairsOnce (table_book t);
+}
 
 -- After a call the table is again one of a sheet.
 pub facts_after : (s : Sheet) (c : Call) (r : Result (Unit {0}) Fault) (u : Table) → Performs s.table c r u → Facts u
 facts_after s c r u p =
     let sound : Sound (table_book u) = subst Sound (sym p.does.leaves) (sound_next (book_of s) (sound_sheet s) c) in
-    (p.sized, (sound.alarms, (sound.limit, (sound.known, (sound.counts, (sound.once, tt))))))
+    record { sized = p.sized; alarms = sound.alarms; limit = sound.limit; known = sound.known; counts = sound.counts; once = sound.once }
 
 -- A change that is refused for the call's cause, and else leaves the rows of the call's book, performs the call.
 module _ (t u : Table) (c : Call) (rs : List Row) (r : Result (Unit {0}) Fault) (change : Changes t rs r u) where

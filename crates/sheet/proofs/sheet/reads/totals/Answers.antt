@@ -23,8 +23,8 @@ loop-row-preserved c =
     let l : i < length rs = omega arith in
     let small = c.requires.counts i l in
     let inv = c.loop-row.invariant in
-    let first = step (λ r. eqb r.first c.args.alarm) rs i c.loop-row.first c.count-if-first.result l small c.count-if-first.ensures inv.0 inv.1 in
-    let second = step (λ r. eqb r.second c.args.alarm) rs i c.loop-row.second c.count-if-second.result l small c.count-if-second.ensures inv.2 inv.3 in
+    let first = step (λ r. eqb r.first c.args.alarm) rs i c.loop-row.first c.count_if-first.result l small c.count_if-first.ensures inv.0 inv.1 in
+    let second = step (λ r. eqb r.second c.args.alarm) rs i c.loop-row.second c.count_if-second.result l small c.count_if-second.ensures inv.2 inv.3 in
     (first.0, first.1, second.0, second.1)
 
 pub returns : goal.returns

@@ -6,4 +6,4 @@ pub returns : goal.returns
 returns c =
     let t = c.args.self.now in
     let within : c.args.at < t.used = omega (arith, rows_long t c.requires.sized, c.requires.within) in
-    removes t c.requires.sized c.args.at c.copy-within.new.self within c.copy-within.ensures.after c.copy-within.ensures.len
+    removes t c.requires.sized c.args.at c.copy_within.new.self within c.copy_within.ensures.after c.copy_within.ensures.len
