@@ -1,7 +1,7 @@
 -- What price answers.
 use Rattle.std.specs.Prelude.{ℕ, Bool, not, ltb, List, [], ◌∷◌, length, Result, nat_lt}
 use Rattle.sheet.specs.Books.{Book}
-use Rattle.sheet.specs.Causes.{Cause, ◌if◌, checked, first_of}
+use Rattle.sheet.specs.Causes.{Cause, ◌if◌, checked, first_cause}
 use Rattle.sheet.specs.declared.fault.Fault.{Fault}
 use Rattle.sheet.specs.declared.fault.Fault.TheVariants.{ShortLevels, LevelBeyondLimit}
 use Rattle.charge.specs.Costs.{Levels, cost, listed}
@@ -17,4 +17,4 @@ price_causes b ls = (ShortLevels if nat_lt (length ls) b.n) ∷ (LevelBeyondLimi
 
 -- the cost of the placement in the buffer, or the refusal
 abbrev pub priced : Book → List ℕ → List ℕ → Result ℕ Fault
-priced b p ls = checked (first_of (price_causes b ls)) (cost b p (listed ls))
+priced b p ls = checked (first_cause (price_causes b ls)) (cost b p (listed ls))

@@ -2,7 +2,7 @@
 use Rattle.std.proofs.Common.{◌≡◌, ℕ, zero, suc, ◌≤◌, true, List, length, get_or, replicate, is_ok, Some, None, Ok, Err, Decides, Option, Result, sym, refl, ap, ◌∙◌, arith}
 use Rattle.std.specs.Result.{result_unwrap_or}
 use Rattle.sheet.specs.Books.{Book, max_alarms}
-use Rattle.sheet.specs.Causes.{checked, first_of}
+use Rattle.sheet.specs.Causes.{checked, first_cause}
 use Rattle.sheet.specs.Numbers.{numbered}
 use Rattle.sheet.specs.declared.fault.Fault.{Fault}
 use Rattle.charge.specs.Charges.{plain}
@@ -29,7 +29,7 @@ passed (Err f) o x ok e = let z : ◌≡◌ {A = ℕ} 0 1 = cc in absurd (omega 
 pub top_priced : (b : Book) (r : Result ℕ Fault) → 1 ≤ b.k → b.n ≤ max_alarms → numbered r ≡ numbered (priced b plain all_on_top) → Decides (is_ok r) (FitsTop b) → result_unwrap_or r 0 ≡ top_cost b
 top_priced b r some few e placed =
     let ok = placed.1 (few, λ v l. omega (arith, zero_at max_alarms v)) in
-    passed r (first_of (price_causes b all_on_top)) (cost b plain (listed all_on_top)) ok e ∙ ap (cost b plain) (λ i v. zero_at max_alarms v i)
+    passed r (first_cause (price_causes b all_on_top)) (cost b plain (listed all_on_top)) ok e ∙ ap (cost b plain) (λ i v. zero_at max_alarms v i)
 
 -- a loaded image is summed up by its content
 pub sums_up : (image : List ℕ) (b b' : Book) (r : Result ℕ ImageFault) → Loads image b r b' → (m : ℕ) → r ≡ Ok m

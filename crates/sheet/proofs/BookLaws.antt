@@ -5,13 +5,13 @@ use Rattle.std.proofs.lemmas.List.{append-nil, get_or_append_left}
 use Rattle.std.proofs.lemmas.Bool.{cases_Bool, cond_both, cond-true, cond-false, not_from_true}
 use Rattle.sheet.specs.Books.{Book, SamePair, row_at, with_rows}
 use Rattle.sheet.specs.Calls.{Call, notes, strikes, confines, accepted, count_causes, next, pair_causes, refusal, row_causes}
-use Rattle.sheet.specs.Causes.{◌if◌, first_of}
+use Rattle.sheet.specs.Causes.{◌if◌, first_cause}
 use Rattle.sheet.specs.Laws.{GrownSound, NoteMovesNone, NoteRaises, NoteSparesOthers, OrderStays, Other, RefusedLeaves, StrikeClears, StrikeSparesOthers, StrikeUndoesFirstNote}
 use Rattle.sheet.specs.Rows.{blank, is_of, lookup, noted, raise_at, row, without}
 use Rattle.sheet.specs.declared.fault.Fault.TheVariants.{NoRow}
 use Rattle.sheet.specs.declared.row.Row.{Row}
 use Rattle.sheet.proofs.Books.{raised_pair, sound_after, sound_new}
-use Rattle.sheet.proofs.Causes.{first_of_append, first_of_past}
+use Rattle.sheet.proofs.Causes.{first_cause_append, first_cause_past}
 use Rattle.sheet.proofs.Rows.{absent_from_lookup, is_of_from, is_of_one, without_absent}
 
 -- what an accepted call leaves, and what a refused one does
@@ -116,10 +116,10 @@ strike_undoes_first_note b u v c none e =
     let b' = with_rows b (b.rows ++ row u v c ∷ []) in
     let noted_is : next b (notes u v c) ≡ b' =
     next_accepted b (notes u v c) e ∙ ap (with_rows b) (cond-false (is_some (lookup u v b.rows)) _ _ (ap is_some none)) in
-    let pair = (first_of_append (pair_causes b u v) (count_causes c ++ row_causes (lookup u v b.rows) (length b.rows) c) e).0 in
+    let pair = (first_cause_append (pair_causes b u v) (count_causes c ++ row_causes (lookup u v b.rows) (length b.rows) c) e).0 in
     let struck_is : refusal b' (strikes u v) ≡ None =
-    first_of_past (pair_causes b' u v) ((NoRow if not (is_some (lookup u v b'.rows))) ∷ []) pair
-    ∙ ap (λ o. first_of ((NoRow if not (is_some o)) ∷ [])) (lookup_pushed u v c b.rows none) in
+    first_cause_past (pair_causes b' u v) ((NoRow if not (is_some (lookup u v b'.rows))) ∷ []) pair
+    ∙ ap (λ o. first_cause ((NoRow if not (is_some o)) ∷ [])) (lookup_pushed u v c b.rows none) in
     ap (λ q. next q (strikes u v)) noted_is ∙ next_accepted b' (strikes u v) struck_is
     ∙ ap (with_rows b) (without_pushed u v c b.rows ∙ without_absent u v b.rows (absent_from_lookup u v b.rows none))
 

@@ -5,11 +5,11 @@ use Rattle.std.proofs.lemmas.List.Sums.{length-filter, count_by-le-length}
 use Rattle.std.proofs.lemmas.Bool.{cases_Bool, cases_lt, cases_order, cond_both, cond-false, cond-true, both_ways}
 use Rattle.sheet.specs.Books.{Book, Known, PairsOnce, SamePair, Sound, TrueCount, new_book, row_at, with_rows}
 use Rattle.sheet.specs.Calls.{Call, opens, notes, strikes, confines, accepted, after, count_causes, next, pair_causes, refusal, row_causes}
-use Rattle.sheet.specs.Causes.{first_of}
+use Rattle.sheet.specs.Causes.{first_cause}
 use Rattle.sheet.specs.Rows.{blank, is_of, lookup, noted, raise_at, raised, row, without}
 use Rattle.sheet.specs.declared.fault.Fault.{Fault}
 use Rattle.sheet.specs.declared.row.Row.{Row}
-use Rattle.sheet.proofs.Causes.{append_ok, count_ok, first_of_append, limit_ok, open_ok, pair_ok, raise_ok}
+use Rattle.sheet.proofs.Causes.{append_ok, count_ok, first_cause_append, limit_ok, open_ok, pair_ok, raise_ok}
 use Rattle.sheet.proofs.Kept.{kept_one, kept_two}
 use Rattle.sheet.proofs.Rows.{Absent, Only, absent_from_lookup, is_of_from, is_of_parts, lookup_only}
 
@@ -132,22 +132,22 @@ module _ (b : Book) (sound : Sound b) where
 
   -- where no cause applies
   sound_noted : (u v c : ℕ) → (u < b.n) × (v < b.n) × (u ≡ v → ⊥) → (1 ≤ c) × (c ≤ 32766) → (o : Option ℕ) → lookup u v b.rows ≡ o
-      → first_of (row_causes (lookup u v b.rows) (length b.rows) c) ≡ None → Sound (with_rows b (noted u v c b.rows))
+      → first_cause (row_causes (lookup u v b.rows) (length b.rows) c) ≡ None → Sound (with_rows b (noted u v c b.rows))
   sound_noted u v c pair count (Some m) is free =
       let e : is_some (lookup u v b.rows) ≡ true = ap is_some is in
-      let small : m + c ≤ 32766 = raise_ok c m (length b.rows) (subst (λ o. first_of (row_causes o (length b.rows) c) ≡ None) is free) in
+      let small : m + c ≤ 32766 = raise_ok c m (length b.rows) (subst (λ o. first_cause (row_causes o (length b.rows) c) ≡ None) is free) in
       subst (λ rs. Sound (with_rows b rs)) (sym (cond-true (is_some (lookup u v b.rows)) _ _ e)) (sound_raised u v c m is small)
   sound_noted u v c pair count None is free =
       let e : is_some (lookup u v b.rows) ≡ false = ap is_some is in
-      let room : length b.rows < 512 = append_ok c (length b.rows) (subst (λ o. first_of (row_causes o (length b.rows) c) ≡ None) is free) in
+      let room : length b.rows < 512 = append_ok c (length b.rows) (subst (λ o. first_cause (row_causes o (length b.rows) c) ≡ None) is free) in
       subst (λ rs. Sound (with_rows b rs)) (sym (cond-false (is_some (lookup u v b.rows)) _ _ e))
       (sound_appended (row u v c) pair count (absent_from_lookup u v b.rows is) room)
 
   sound_accepted : (c : Call) → refusal b c ≡ None → Sound (accepted b c)
   sound_accepted (opens n k) e = let r = open_ok b n k e in sound_empty n k r.0 r.1
   sound_accepted (notes u v c) e =
-      let p = first_of_append (pair_causes b u v) (count_causes c ++ row_causes (lookup u v b.rows) (length b.rows) c) e in
-      let q = first_of_append (count_causes c) (row_causes (lookup u v b.rows) (length b.rows) c) p.1 in
+      let p = first_cause_append (pair_causes b u v) (count_causes c ++ row_causes (lookup u v b.rows) (length b.rows) c) e in
+      let q = first_cause_append (count_causes c) (row_causes (lookup u v b.rows) (length b.rows) c) p.1 in
       sound_noted u v c (pair_ok b u v p.0) (count_ok c q.0) (lookup u v b.rows) refl q.1
   sound_accepted (strikes u v) e = sound_without u v
   sound_accepted (confines k) e = record { alarms = sound.alarms; limit = limit_ok k e; fit = sound.fit; known = sound.known; counts = sound.counts; once = sound.once }

@@ -6,7 +6,7 @@ use Rattle.std.specs.List.{remove}
 use Rattle.std.proofs.lemmas.Bool.{cond-true, cond-false}
 use Rattle.sheet.specs.Books.{AlarmsInRange, AlarmsKnown, CountsTrue, LimitInRange, PairsOnce, Sound, row_at, with_rows}
 use Rattle.sheet.specs.Calls.{Call, notes, strikes, accepted, count_causes, pair_causes, refusal, row_causes}
-use Rattle.sheet.specs.Causes.{checked, first_of, ◌if◌, refused_if}
+use Rattle.sheet.specs.Causes.{checked, first_cause, ◌if◌, refused_if}
 use Rattle.sheet.specs.Numbers.{numbered}
 use Rattle.sheet.specs.Rows.{is_of, lookup, raised, row}
 use Rattle.sheet.specs.Sheets.{book_of}
@@ -18,7 +18,7 @@ use Rattle.sheet.specs.declared.row.Row.{Row}
 use Rattle.sheet.specs.declared.sheet.Sheet.{Sheet}
 use Rattle.sheet.specs.declared.table.Table.{Table}
 use Rattle.sheet.proofs.Books.{only_here, sound_next}
-use Rattle.sheet.proofs.Causes.{checked_free, checked_value, first_of_past}
+use Rattle.sheet.proofs.Causes.{checked_free, checked_value, first_cause_past}
 use Rattle.sheet.proofs.Rows.{lookup_only, raise_only, without_only}
 use Rattle.sheet.proofs.Tables.{rows_long}
 
@@ -77,21 +77,21 @@ module _ (t u : Table) (c : Call) (rs : List Row) (r : Result (Unit {0}) Fault) 
   }
 
 -- a call for a pair of known and different alarms
-module _ (t u : Table) (once : PairsOnce (table_book t)) (a b : ℕ) (r : Result (Unit {0}) Fault) (pair : checked {X = Unit {0}} (first_of (pair_causes (table_book t) a b)) tt ≡ Ok tt) where
-  free : first_of (pair_causes (table_book t) a b) ≡ None
+module _ (t u : Table) (once : PairsOnce (table_book t)) (a b : ℕ) (r : Result (Unit {0}) Fault) (pair : checked {X = Unit {0}} (first_cause (pair_causes (table_book t) a b)) tt ≡ Ok tt) where
+  free : first_cause (pair_causes (table_book t) a b) ≡ None
   free = checked_free _ _ _ pair
 
   -- a note of the count m, which passed as c
-  module _ (m c : ℕ) (counted : checked (first_of (count_causes m)) m ≡ Ok c) where
+  module _ (m c : ℕ) (counted : checked (first_cause (count_causes m)) m ≡ Ok c) where
     same : m ≡ c
     same = checked_value _ m c counted
 
-    note_refusal : (o : Option ℕ) → lookup a b (rows_of t) ≡ o → refusal (table_book t) (notes a b m) ≡ first_of (row_causes o (length (rows_of t)) c)
+    note_refusal : (o : Option ℕ) → lookup a b (rows_of t) ≡ o → refusal (table_book t) (notes a b m) ≡ first_cause (row_causes o (length (rows_of t)) c)
     note_refusal o is =
-        first_of_past (pair_causes (table_book t) a b) (count_causes m ++ row_causes (lookup a b (rows_of t)) (length (rows_of t)) m) free
-        ∙ first_of_past (count_causes m) (row_causes (lookup a b (rows_of t)) (length (rows_of t)) m) (checked_free _ m c counted)
-        ∙ ap (λ q. first_of (row_causes q (length (rows_of t)) m)) is
-        ∙ ap (λ x. first_of (row_causes o (length (rows_of t)) x)) same
+        first_cause_past (pair_causes (table_book t) a b) (count_causes m ++ row_causes (lookup a b (rows_of t)) (length (rows_of t)) m) free
+        ∙ first_cause_past (count_causes m) (row_causes (lookup a b (rows_of t)) (length (rows_of t)) m) (checked_free _ m c counted)
+        ∙ ap (λ q. first_cause (row_causes q (length (rows_of t)) m)) is
+        ∙ ap (λ x. first_cause (row_causes o (length (rows_of t)) x)) same
 
     -- the pair's row is at i
     pub notes_raise : (i : ℕ) → (i < length (rows_of t)) × (is_of a b (row_at (table_book t) i) ≡ true)
@@ -118,10 +118,10 @@ module _ (t u : Table) (once : PairsOnce (table_book t)) (a b : ℕ) (r : Result
         (λ _. ap (with_rows (table_book t))
         (cond-false (is_some (lookup a b (rows_of t))) _ _ (ap is_some is) ∙ ap (λ x. rows_of t ++ row a b x ∷ []) same))
 
-  strike_refusal : (o : Option ℕ) → lookup a b (rows_of t) ≡ o → refusal (table_book t) (strikes a b) ≡ first_of ((NoRow if not (is_some o)) ∷ [])
+  strike_refusal : (o : Option ℕ) → lookup a b (rows_of t) ≡ o → refusal (table_book t) (strikes a b) ≡ first_cause ((NoRow if not (is_some o)) ∷ [])
   strike_refusal o is =
-      first_of_past (pair_causes (table_book t) a b) ((NoRow if not (is_some (lookup a b (rows_of t)))) ∷ []) free
-      ∙ ap (λ q. first_of ((NoRow if not (is_some q)) ∷ [])) is
+      first_cause_past (pair_causes (table_book t) a b) ((NoRow if not (is_some (lookup a b (rows_of t)))) ∷ []) free
+      ∙ ap (λ q. first_cause ((NoRow if not (is_some q)) ∷ [])) is
 
   pub strikes_row : (i : ℕ) → (i < length (rows_of t)) × (is_of a b (row_at (table_book t) i) ≡ true)
       → Changes t (remove (rows_of t) i) (Ok tt) u → Performs t (strikes a b) (Ok tt) u

@@ -1,5 +1,5 @@
 -- What it leaves of a table to raise a row, to add one at the end, and to take one out. Assumes nothing.
-use Rattle.std.proofs.Common.{◌≡◌, ℕ, ◌+◌, ◌-◌, ◌<◌, ◌≤◌, true, false, cond, List, [], ◌∷◌, ◌++◌, length, get_or, take, drop, set, is_ok, Ok, Err, Result, sym, ap, ◌∙◌, subst, add-one, arith}
+use Rattle.std.proofs.Common.{◌≡◌, ℕ, ◌+◌, ◌-◌, ◌<◌, ◌≤◌, cond, List, [], ◌∷◌, ◌++◌, length, get_or, take, drop, set, is_ok, Ok, Err, Result, sym, ap, ◌∙◌, subst, add-one, arith}
 use lib.Seq.{take-set-lt, paste}
 use Rattle.std.specs.List.{remove, between}
 use Rattle.std.proofs.lemmas.List.{length-take-le, length-set, get_or-take, set-get_or, take_more_set, take-take, length-drop}

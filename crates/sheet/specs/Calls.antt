@@ -1,6 +1,6 @@
 -- What each call does to a book: which refusal it meets, or which book it leaves.
 use Rattle.std.specs.Prelude.{◌≡◌, ℕ, ◌+◌, Bool, false, cond, not, ◌&&◌, ◌||◌, List, [], ◌∷◌, ◌++◌, length, is_some, Some, None, Option, Result, ◌==◌, nat_le, nat_lt}
-use Rattle.sheet.specs.Causes.{Cause, ◌if◌, beyond, checked, first_of}
+use Rattle.sheet.specs.Causes.{Cause, ◌if◌, beyond, checked, first_cause}
 use Rattle.sheet.specs.Numbers.{numbered}
 use Rattle.sheet.specs.Rows.{lookup, noted, without, max_count, total_first, total_second}
 use Rattle.sheet.specs.Books.{Book, with_limit, with_rows, max_alarms, max_limit, max_rows}
@@ -48,7 +48,7 @@ causes b (confines k) = limit_causes k
 
 -- the fault that refuses a call, if any does
 abbrev pub refusal : Book → Call → Option Fault
-refusal b c = first_of (causes b c)
+refusal b c = first_cause (causes b c)
 
 -- the book after a call that is accepted
 abbrev pub accepted : Book → Call → Book
@@ -75,4 +75,4 @@ pub record Does (b : Book) (c : Call) (r : Result (Unit {0}) ℕ) (b' : Book) : 
 
 -- the two totals of an alarm, or the refusal
 abbrev pub standing_of : Book → ℕ → Result (ℕ × ℕ) Fault
-standing_of b u = checked (first_of ((UnknownAlarm if unknown b u) ∷ [])) (total_first u b.rows, total_second u b.rows)
+standing_of b u = checked (first_cause ((UnknownAlarm if unknown b u) ∷ [])) (total_first u b.rows, total_second u b.rows)

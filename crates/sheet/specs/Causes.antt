@@ -13,9 +13,9 @@ abbrev pub ◌if◌ : Fault → Bool → Cause
 f if t = record { fault = f; applies = t }
 
 -- of several causes that apply, the earlier wins
-abbrev pub first_of : List Cause → Option Fault
-first_of [] = None
-first_of (c ∷ cs) = cond c.applies (Some c.fault) (first_of cs)
+abbrev pub first_cause : List Cause → Option Fault
+first_cause [] = None
+first_cause (c ∷ cs) = cond c.applies (Some c.fault) (first_cause cs)
 
 -- the answer x, unless something refuses it
 abbrev pub checked : {X : Type 0} → Option Fault → X → Result X Fault
@@ -24,7 +24,7 @@ checked (Some f) x = Err f
 
 -- refused with f where t holds, and else accepted
 abbrev pub refused_if : Fault → Bool → Result (Unit {0}) Fault
-refused_if f t = checked (first_of ((f if t) ∷ [])) tt
+refused_if f t = checked (first_cause ((f if t) ∷ [])) tt
 
 -- x is not from 1 to most
 abbrev pub beyond : ℕ → ℕ → Bool

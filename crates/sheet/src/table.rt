@@ -3,7 +3,7 @@ ghost use Rattle.std.specs.Prelude.{◌≡◌, ◌+◌, ◌<◌, [], ◌∷◌, 
 ghost use Rattle.std.specs.List.{remove};
 ghost use Rattle.sheet.specs.Books.{PairsOnce, max_rows, row_at};
 ghost use Rattle.sheet.specs.Calls.{count_causes, notes, pair_causes, strikes};
-ghost use Rattle.sheet.specs.Causes.{checked, first_of, refused_if};
+ghost use Rattle.sheet.specs.Causes.{checked, first_cause, refused_if};
 ghost use Rattle.sheet.specs.Rows.{max_count, raised};
 ghost use Rattle.sheet.specs.Changes.{Changes, Performs, PlaceOf};
 ghost use Rattle.sheet.specs.Tables.{Sized, rows_of, table_book};
@@ -24,7 +24,7 @@ pub(crate) struct Table {
 impl Table {
     // Refuses a pair that is not of two different known alarms.
     pub(crate) fn check_pair(&self, first: u8, second: u8) -> Result<(), Fault>
-        ensures { result ≡ checked (first_of (pair_causes (table_book self.now) first second)) tt }
+        ensures { result ≡ checked (first_cause (pair_causes (table_book self.now) first second)) tt }
     {
         if first >= self.alarms || second >= self.alarms {
             return Err(Fault::UnknownAlarm);
@@ -117,7 +117,7 @@ impl Table {
 
 // The count, unless it is 0 or that of a pinned counter.
 fn true_count(count: u32) -> Result<u16, Fault>
-    ensures { result ≡ checked (first_of (count_causes count)) count }
+    ensures { result ≡ checked (first_cause (count_causes count)) count }
 {
     if count == 0 {
         return Err(Fault::ZeroCount);

@@ -1,11 +1,10 @@
 // How an own row is made, replaced and asked.
 ghost use Rattle.std.specs.Prelude.{◌≡◌, true, false, length, is_ok, Decides};
-ghost use Rattle.sheet.specs.Causes.{checked, first_of};
+ghost use Rattle.sheet.specs.Causes.{checked, first_cause};
 ghost use Rattle.sheet.specs.Numbers.{numbered};
 ghost use Rattle.charge.specs.Charges.{Convex, Fair, Small, distances, plain};
 ghost use Rattle.charge.specs.Fits.{fit_causes};
 ghost use Rattle.charge.specs.OwnRows.{row_of};
-ghost use Rattle.std.proofs.Common.{rules, arith};
 
 use crate::charges::{Charge, DISTANCES, MAX_CHARGE, MAX_DISTANCE};
 use crate::own_row::OwnRow;
@@ -23,7 +22,7 @@ impl OwnRow {
 
     // Takes the numbers for its row, if they are eight, within 200 and convex.
     pub fn fit(&mut self, numbers: &[u16]) -> Result<(), Fault>
-        ensures answered { numbered result ≡ numbered (checked (first_of (fit_causes numbers.now)) tt) }
+        ensures answered { numbered result ≡ numbered (checked (first_cause (fit_causes numbers.now)) tt) }
         ensures fair { Decides (is_ok result) (Fair numbers.now) }
         ensures taken { is_ok result ≡ true → row_of self.new ≡ numbers.now }
         ensures kept { is_ok result ≡ false → self.new ≡ self.old }
@@ -46,7 +45,7 @@ impl OwnRow {
 impl Charge for OwnRow {
     ghost row = { row_of };
 
-    ghost fair = { first_of (Prim.search rules, Prim.grind (arith, Self.row.coded.inj)) };
+    ghost fair = { λ own. record { long = own.long; small = own.small; convex = own.convex } };
 
     fn at(&self, d: u8) -> u8 {
         self.row[d.min(MAX_DISTANCE) as usize]
