@@ -7,10 +7,10 @@ use Rattle.image_format.proofs.Items.{item_fits}
 use Rattle.image_format.proofs.OneField.{read_short, read_wrong, read_next, from_start}
 use Rattle.image.proofs.loading.read.Goals as goal
 
-pub returns-in-default : goal.returns-in-default
-returns-in-default g c =
+pub returns-in_default : goal.returns-in_default
+returns-in_default g c =
     let image = c.args.image.now in
-    sym (sym (c.loop-at.invariant.3 ∙ from_start g.S.Source.kind c.args.source (state_of image c.new-reading.result) image (omega arith) (c.new-reading.ensures.state image)) ∙ read_short g.S.Source.kind image (state_of image c.loop-at.reading) c.loop-at.at (omega arith) c.in-default.ensures)
+    sym (sym (c.loop-at.invariant.3 ∙ from_start g.S.Source.kind c.args.source (state_of image c.new-reading.result) image (omega arith) (c.new-reading.ensures.state image)) ∙ read_short g.S.Source.kind image (state_of image c.loop-at.reading) c.loop-at.at (omega arith) c.in_default.ensures)
 
 pub returns-in-Err : goal.returns-in-Err
 returns-in-Err g c =
@@ -25,7 +25,7 @@ loop-at-preserved g c =
       omega arith,
       c.loop-at.invariant.1,
       omega (arith, c.step.ensures.more, c.loop-at.invariant.2),
-      sym (read_next g.S.Source.kind image (state_of image c.loop-at.reading) at (omega arith) f.tag f.value.now c.in-Some.ensures (state_of image c.step.new.self) c.in-default-step.ensures.state) ∙ c.loop-at.invariant.3,
+      sym (read_next g.S.Source.kind image (state_of image c.loop-at.reading) at (omega arith) f.tag f.value.now c.in-Some.ensures (state_of image c.step.new.self) c.in_default-step.ensures.state) ∙ c.loop-at.invariant.3,
     )
 
 pub returns : goal.returns

@@ -6,19 +6,19 @@ use Rattle.image.specs.Readings.{names_of}
 use Rattle.image.proofs.Steps.{names_long, name_here}
 use Rattle.image.proofs.reading.Reading.has.Goals as goal
 
-pub returns-then-same-name : goal.returns-then-same-name
-returns-then-same-name g c =
+pub returns-then-same_name : goal.returns-then-same_name
+returns-then-same_name g c =
     let r = c.args.self.now in let image = c.args.image.now in let v = c.args.name.now in
     let e = names_long image r in
     let n = name_here image r c.loop-i.i (omega arith) ∙ sym c.value_at.ensures in
-    sym (sym c.loop-i.invariant ∙ given_here v (names_of image r) c.loop-i.i (omega arith) (ap (λ x. same_name x v) n ∙ sym c.if-same-name.ensures))
+    sym (sym c.loop-i.invariant ∙ given_here v (names_of image r) c.loop-i.i (omega arith) (ap (λ x. same_name x v) n ∙ sym c.if-same_name.ensures))
 
 pub loop-i-preserved : goal.loop-i-preserved
 loop-i-preserved g c =
     let r = c.args.self.now in let image = c.args.image.now in let v = c.args.name.now in
     let e = names_long image r in
     let n = name_here image r c.loop-i.i (omega arith) ∙ sym c.value_at.ensures in
-    given_other v (names_of image r) c.loop-i.i (omega arith) (ap (λ x. same_name x v) n ∙ sym c.if-same-name.ensures) ∙ c.loop-i.invariant
+    given_other v (names_of image r) c.loop-i.i (omega arith) (ap (λ x. same_name x v) n ∙ sym c.if-same_name.ensures) ∙ c.loop-i.invariant
 
 pub returns : goal.returns
 returns g c =
