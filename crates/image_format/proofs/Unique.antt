@@ -1,5 +1,5 @@
 -- An image holds at most one content. Assumes nothing.
-use Rattle.std.proofs.Common.{◌≡◌, ℕ, ◌+◌, List, [], ◌∷◌, ◌++◌, map, get_or, sym, refl, ap, ◌∙◌, arith}
+use Rattle.std.proofs.Common.{◌≡◌, ℕ, List, [], ◌∷◌, ◌++◌, map, get_or, sym, refl, ap, ◌∙◌, arith}
 use Rattle.image_format.specs.Contents.{Note, Content, Holds, fields, limit_field, name_field, note_field}
 use Rattle.image_format.specs.Fields.{Field, Item, whole, short, encoding, items}
 use Rattle.image_format.proofs.Whole.{item_of, items_of}

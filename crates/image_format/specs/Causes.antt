@@ -1,5 +1,5 @@
 -- Causes to refuse a field, and which of them wins.
-use Rattle.std.specs.Prelude.{Bool, cond, List, [], ◌∷◌, Ok, Err, Result}
+use Rattle.std.specs.Prelude.{Bool, cond, List, [], ◌∷◌, Err, Result}
 
 -- a fault, and whether it applies
 pub record Cause (F : Type 0) : Type 0 where

@@ -73,7 +73,7 @@ mod tests {
         assert_eq!(rt; load(&RING, &mut sheet), Ok(3));
         assert_eq!(rt; (sheet.alarms(), sheet.limit()), (3, 3));
         let want = [row(0, 1, 5), row(1, 2, 4), row(2, 0, 1)];
-        assert!(rt; sheet.rows() == &want);
+        assert!(rt; sheet.rows() == want.as_slice());
     }
 
     #[test]
@@ -82,7 +82,7 @@ mod tests {
         assert!(rt; load(&pinned(), &mut sheet).is_err());
         assert_eq!(rt; (sheet.alarms(), sheet.limit()), (4, 5));
         let want = [row(3, 1, 9), row(0, 1, 32766)];
-        assert!(rt; sheet.rows() == &want);
+        assert!(rt; sheet.rows() == want.as_slice());
     }
 
     #[test]

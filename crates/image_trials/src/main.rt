@@ -40,7 +40,7 @@ fn is_held(sheet: &Sheet) -> bool {
         second: 1,
         count: 7,
     }];
-    sheet.alarms() == 2 && sheet.limit() == 2 && sheet.rows() == &rows
+    sheet.alarms() == 2 && sheet.limit() == 2 && sheet.rows() == rows.as_slice()
 }
 
 // Prints the line that complains of a fault.

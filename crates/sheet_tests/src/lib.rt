@@ -122,7 +122,7 @@ mod tests {
                 count: 6,
             },
         ];
-        assert!(rt; sheet.rows() == &want);
+        assert!(rt; sheet.rows() == want.as_slice());
         assert_eq!(rt; sheet.standing(0).ok(), Some((6, 1)));
     }
 

@@ -8,7 +8,7 @@ use Rattle.image_summary.proofs.summarize.Goals as goal
 pub returns-in_err-notes : goal.returns-in_err-notes
 returns-in_err-notes c =
     let image = c.args.image.now in let f = c.in_err-notes.field-0.0 in
-    let same : c.from-residual.result ≡ Err f = search rules in
+    let same : c.from_residual.result ≡ Err f = search rules in
     subst (SumsUp image) (sym same) (sums_up_none image _ _ _ c.load.ensures.loads f c.in_err-notes.was)
 
 pub returns : goal.returns
