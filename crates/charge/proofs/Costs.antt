@@ -1,6 +1,6 @@
 -- How large a cost can be, what it depends on, and that there is one best placement. Assumes nothing.
 use Rattle.std.proofs.Common.{◌≡◌, ℕ, ◌+◌, ◌-◌, ◌*◌, ◌<◌, ◌≤◌, Bool, ltb, leb, List, [], ◌∷◌, length, get_or, Decides, sum_by, sym, ap, ◌∙◌, mul_comm, mul-add, arith}
-use Rattle.std.specs.List.{AllByRecursion as All}
+use Rattle.std.specs.List.{AllByRecursion}
 use Rattle.std.proofs.lemmas.Nat.{mul-le}
 use Rattle.std.proofs.ByRecursion.{All-from_get_or, sum_by_le}
 use Rattle.std.proofs.lemmas.List.{get_or-take}
@@ -31,7 +31,7 @@ pub placed_is : (b : Book) (l : Levels) (r : Bool) → Decides r (Placement b l)
 placed_is b l r h = same_from_decides (placed b l) r (placed_decides b l) h
 
 -- sums of which each term of one is c times that of the other
-scaled : {X : Type 0} (f g : X → ℕ) (c : ℕ) (xs : List X) → All (λ x. f x ≡ c * g x) xs → sum_by f xs ≡ c * sum_by g xs
+scaled : {X : Type 0} (f g : X → ℕ) (c : ℕ) (xs : List X) → AllByRecursion (λ x. f x ≡ c * g x) xs → sum_by f xs ≡ c * sum_by g xs
 scaled f g c [] h = omega arith
 scaled f g c (x ∷ xs) h =
     omega (arith, sum_by-cons f x xs, sum_by-cons g x xs, h.0, scaled f g c xs h.1, mul-add c (g x) (sum_by g xs), ap (λ s. c * s) (sum_by-cons g x xs))

@@ -1,6 +1,6 @@
 -- A small sheet's best placement, by trying every placement. Assumes nothing.
 use Rattle.std.proofs.Common.{◌≡◌, ℕ, zero, suc, ◌<◌, ◌≤◌, Bool, true, ◌&&◌, ◌||◌, eqb, ltb, leb, ◌⊎◌, List, [], ◌∷◌, map, length, ◌∙◌, subst, inl, inr, ⊎_elim, arith}
-use Rattle.std.specs.List.{range_with_len, AllByRecursion as All}
+use Rattle.std.specs.List.{range_with_len, AllByRecursion}
 use Rattle.std.proofs.lemmas.List.FromFn.{get_or-map-range_with_len, length-map-range_with_len}
 use Rattle.std.proofs.ByRecursion.{All-from_get_or}
 use Rattle.std.proofs.lemmas.Bool.{and_parts, eqb-true, ltb-true, or_cases}
@@ -19,7 +19,7 @@ abbrev all_lists : ℕ → ℕ → (List ℕ → Bool) → Bool
 all_lists zero k test = test []
 all_lists (suc n) k test = all_below k (λ x. all_lists n k (λ xs. test (x ∷ xs)))
 
-all_lists_at : (n k : ℕ) (test : List ℕ → Bool) → all_lists n k test ≡ true → (xs : List ℕ) → length xs ≡ n → All (λ x. x < k) xs → test xs ≡ true
+all_lists_at : (n k : ℕ) (test : List ℕ → Bool) → all_lists n k test ≡ true → (xs : List ℕ) → length xs ≡ n → AllByRecursion (λ x. x < k) xs → test xs ≡ true
 all_lists_at zero k test h [] e low = h
 all_lists_at zero k test h (x ∷ xs) e low = absurd (omega arith)
 all_lists_at (suc n) k test h [] e low = absurd (omega arith)

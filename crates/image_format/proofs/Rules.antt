@@ -1,7 +1,7 @@
 -- The rules on names, by tests and in words. Assumes nothing.
 use Rattle.std.proofs.Common.{◌≡◌, ℕ, zero, suc, ◌<◌, Bool, true, false, cond, not, ◌&&◌, leb, List, [], ◌∷◌, ◌++◌, length, get_or, Ok, Err, Result, sym, refl, ◌∙◌, ⊎_elim, arith}
 use Rattle.std.specs.Str.{bytes_eq}
-use Rattle.std.specs.List.{AllByRecursion as All}
+use Rattle.std.specs.List.{AllByRecursion}
 use Rattle.std.proofs.lemmas.List.{length_push, get_or_push, get_or_append_left, get_or_at, length-append}
 use Rattle.std.proofs.lemmas.Slice.Eq.{bytes_eq-Decides}
 use Rattle.std.proofs.lemmas.Bool.{and_parts, and_from, or_parts, or_from, both_ways, cases_Bool, cases_lt, leb-true, le-leb}
@@ -22,13 +22,13 @@ pub pass_not : {A : Type 0} (b : Bool) (x y : A) → b ≡ true → cond (not b)
 pass_not true x y h = refl
 pass_not false x y h = let z : ◌≡◌ {A = ℕ} 0 1 = cc in absurd (omega arith)
 
-pub all_printable : (v : List ℕ) → printable v ≡ true → All Printable v
+pub all_printable : (v : List ℕ) → printable v ≡ true → AllByRecursion Printable v
 all_printable [] h = tt
 all_printable (b ∷ bs) h =
     let p = and_parts (leb 32 b && leb b 126) (printable bs) h in let q = and_parts (leb 32 b) (leb b 126) p.0 in
     ((leb-true _ _ q.0, leb-true _ _ q.1), all_printable bs p.1)
 
-pub printable_all : (v : List ℕ) → All Printable v → printable v ≡ true
+pub printable_all : (v : List ℕ) → AllByRecursion Printable v → printable v ≡ true
 printable_all [] h = refl
 printable_all (b ∷ bs) h = and_from _ _ (and_from _ _ (le-leb _ _ h.0.0) (le-leb _ _ h.0.1)) (printable_all bs h.1)
 

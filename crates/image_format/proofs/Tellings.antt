@@ -1,6 +1,6 @@
 -- The image of counts: its values are notes, and its notes are values. Assumes nothing.
 use Rattle.std.proofs.Common.{◌≡◌, ℕ, ◌+◌, ◌*◌, ◌/◌, ◌%◌, ◌<◌, ◌≤◌, cond, List, [], ◌∷◌, ◌++◌, map, length, get_or, is_some, None, Ok, Option, sym, refl, ap, ◌∙◌, subst, arith}
-use Rattle.std.specs.List.{AllByRecursion as All}
+use Rattle.std.specs.List.{AllByRecursion}
 use Rattle.std.proofs.ByRecursion.{All-from_get_or}
 use Rattle.std.proofs.lemmas.List.{length-map}
 use Rattle.std.proofs.lemmas.Bool.Decides.{nat_tests}
@@ -21,21 +21,21 @@ use Rattle.image_format.proofs.Exactly.{accepted_right, right_accepted}
 abbrev Byte : ℕ → Type 0
 Byte x = x < 256
 
-all_right : (xs ys : List ℕ) → All Byte (xs ++ ys) → All Byte ys
+all_right : (xs ys : List ℕ) → AllByRecursion Byte (xs ++ ys) → AllByRecursion Byte ys
 all_right [] ys h = h
 all_right (x ∷ xs) ys h = all_right xs ys h.1
 
-all_left : (xs ys : List ℕ) → All Byte (xs ++ ys) → All Byte xs
+all_left : (xs ys : List ℕ) → AllByRecursion Byte (xs ++ ys) → AllByRecursion Byte xs
 all_left [] ys h = tt
 all_left (x ∷ xs) ys h = (h.0, all_left xs ys h.1)
 
 -- the bytes of an image are those of its values
-value_bytes : (fs : List Field) → All Byte (encoding fs) → All (λ f. All Byte f.value) fs
+value_bytes : (fs : List Field) → AllByRecursion Byte (encoding fs) → AllByRecursion (λ f. AllByRecursion Byte f.value) fs
 value_bytes [] h = tt
 value_bytes (f ∷ fs) h =
     ((all_left (bytes_of f) (encoding fs) h).1.1.1, value_bytes fs (all_right (bytes_of f) (encoding fs) h))
 
-behind_names : (P : Field → Type 0) (names : List (List ℕ)) (fs : List Field) → All P (map name_field names ++ fs) → All P fs
+behind_names : (P : Field → Type 0) (names : List (List ℕ)) (fs : List Field) → AllByRecursion P (map name_field names ++ fs) → AllByRecursion P fs
 behind_names P [] fs h = h
 behind_names P (v ∷ vs) fs h = behind_names P vs fs h.1
 
@@ -46,7 +46,7 @@ next_accepted b c e = ap (λ (o : Option Fault). cond (is_some o) b (accepted b 
 abbrev note_of : List ℕ → Note
 note_of v = record { first = get_or v 0 0; second = get_or v 1 0; count = get_or v 2 0 * 256 + get_or v 3 0 }
 
-note_again : (v : List ℕ) → length v ≡ 4 → All Byte v → value_field counts v ≡ note_field (note_of v)
+note_again : (v : List ℕ) → length v ≡ 4 → AllByRecursion Byte v → value_field counts v ≡ note_field (note_of v)
 note_again [] n h = absurd (omega arith)
 note_again (a ∷ []) n h = absurd (omega arith)
 note_again (a ∷ b ∷ []) n h = absurd (omega arith)
@@ -65,7 +65,7 @@ record NotesIn (b : Book) (values : List (List ℕ)) (b' : Book) : Type 0 where
   left : b' ≡ after b (map note_call notes)
   count : length notes ≡ length values
 
-notes_in : (values : List (List ℕ)) (s : Counts) (b b' : Book) → All (λ f. All Byte f.value) (map (value_field counts) values) → Fed counts s b values b' → NotesIn b values b'
+notes_in : (values : List (List ℕ)) (s : Counts) (b b' : Book) → AllByRecursion (λ f. AllByRecursion Byte f.value) (map (value_field counts) values) → Fed counts s b values b' → NotesIn b values b'
 notes_in [] s b b' small h = record { notes = []; same = refl; accepted = tt; left = sym h; count = refl }
 notes_in (v ∷ vs) s b b' small h =
     let p = h.1.0 in let call = note_in v in
@@ -87,9 +87,9 @@ pub accepted_holds : (image : List ℕ) (x : Described) → Bytes image → outc
 accepted_holds image x small h =
     let r = accepted_right counts (omega arith) (record {}) image small x h in
     let s = r.shape in
-    let all = subst (λ bs. All Byte bs) r.bytes (All-from_get_or Byte image 0 (λ i l. small i)) in
-    let each = subst (λ fs. All (λ f. All Byte f.value) fs) s.same (value_bytes r.fields all) in
-    let n = notes_in s.values (record {}) (opened (length s.names) s.limit) x.book (behind_names (λ f. All Byte f.value) s.names _ each.1) s.fed in
+    let all = subst (λ bs. AllByRecursion Byte bs) r.bytes (All-from_get_or Byte image 0 (λ i l. small i)) in
+    let each = subst (λ fs. AllByRecursion (λ f. AllByRecursion Byte f.value) fs) s.same (value_bytes r.fields all) in
+    let n = notes_in s.values (record {}) (opened (length s.names) s.limit) x.book (behind_names (λ f. AllByRecursion Byte f.value) s.names _ each.1) s.fed in
     let opens_free = open_free (length s.names) s.limit s.some s.good.0 s.low s.high in
     let book = next_accepted new_book (opens (length s.names) s.limit) opens_free in
     record {

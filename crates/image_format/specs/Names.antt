@@ -1,6 +1,6 @@
 -- Names: which bytes they have, and when two are the same.
 use Rattle.std.specs.Prelude.{◌≡◌, ℕ, ◌<◌, ◌≤◌, Bool, true, false, ◌&&◌, ◌||◌, List, [], ◌∷◌, length, nat_le, slice_index_or}
-use Rattle.std.specs.List.{AllByRecursion as All}
+use Rattle.std.specs.List.{AllByRecursion}
 use Rattle.std.specs.Str.{bytes_eq}
 
 -- the most bytes of a name
@@ -15,7 +15,7 @@ Printable b = (32 ≤ b) × (b ≤ 126)
 pub record Name (v : List ℕ) : Type 0 where
   pub some : 1 ≤ length v
   pub few : length v ≤ max_name
-  pub bytes : All Printable v
+  pub bytes : AllByRecursion Printable v
 
 -- two names are the same when they have the same bytes
 abbrev pub IsSameName : List ℕ → List ℕ → Type 0
