@@ -45,8 +45,8 @@ pub others_ignored : OthersIgnored
 others_ignored b p l m known same =
     same_sum b (row_cost p l) (row_cost p m)
     (λ i h.
-    let first = same (row_at b i).first (known i h).0 in
-    let second = same (row_at b i).second (known i h).1 in
+    let first = same (row_at b i).first (known i blank h).0 in
+    let second = same (row_at b i).second (known i blank h).1 in
     cc)
 
 pub rest_ignored : RestIgnored
@@ -67,7 +67,7 @@ plain_is_agony b l sound low =
     (λ i h.
     let r = row_at b i in
     let d = l r.first - l r.second in
-    let near : d ≤ max_distance = omega (arith, low r.first (sound.known i h).0, sound.limit.1) in
+    let near : d ≤ max_distance = omega (arith, low r.first (sound.known i blank h).0, sound.limit.1) in
     cond_both (leb (l r.second) (l r.first)) (r.count * charge_at plain d) 0 (λ c. c ≡ r.count * ((l r.first + 1) - l r.second))
     (λ t.
     let e : charge_at plain d ≡ (l r.first + 1) - l r.second = omega (arith, formula_at (λ x. x + 1) d near, leb-true (l r.second) (l r.first) t) in
@@ -82,14 +82,14 @@ equal_levels_cost b p l x known same =
     (All-from_get_or (λ r. row_cost p l r ≡ charge_at p 0 * r.count) b.rows blank
     (λ i h.
     let r = row_at b i in
-    let first = same r.first (known i h).0 in
-    let second = same r.second (known i h).1 in
+    let first = same r.first (known i blank h).0 in
+    let second = same r.second (known i blank h).1 in
     let level : l r.first - l r.second ≡ 0 = omega arith in
     cond-true (leb (l r.second) (l r.first)) _ 0 (le-leb _ _ (omega arith)) ∙ ap (λ d. r.count * charge_at p d) level ∙ mul_comm r.count (charge_at p 0)))
 
 pub cost_bounded : CostBounded
 cost_bounded b p l sound fair =
-    let all = All-from_get_or (λ r. row_cost p l r ≤ max_count * max_charge) b.rows blank (λ i h. row_cost_small p fair l (row_at b i) (sound.counts i h).1) in
+    let all = All-from_get_or (λ r. row_cost p l r ≤ max_count * max_charge) b.rows blank (λ i h. row_cost_small p fair l (row_at b i) (sound.counts i blank h).1) in
     omega (arith, sum_by_le (row_cost p l) (max_count * max_charge) b.rows all, mul-le (length b.rows) (max_count * max_charge) max_rows (max_count * max_charge) sound.fit (omega arith))
 
 pub best_unique : BestUnique

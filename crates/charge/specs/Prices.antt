@@ -12,7 +12,7 @@ abbrev pub placed : Book → Levels → Bool
 placed b l = all_below b.n (λ v. ltb (l v) b.k)
 
 -- the causes to refuse a buffer of levels, in the order in which they win
-abbrev pub price_causes : Book → List ℕ → List Cause
+abbrev pub price_causes : Book → List ℕ → List (Cause Fault)
 price_causes b ls = (ShortLevels if nat_lt (length ls) b.n) ∷ (LevelBeyondLimit if not (placed b (listed ls))) ∷ []
 
 -- the cost of the placement in the buffer, or the refusal

@@ -1,7 +1,6 @@
 // What a placement costs.
 ghost use Rattle.std.specs.Prelude.{◌≡◌, ℕ, ◌<◌, ◌≤◌, length, is_ok, Decides, sum_by, slice_index_or};
 ghost use Rattle.sheet.specs.Books.{max_rows};
-ghost use Rattle.sheet.specs.Numbers.{numbered};
 ghost use Rattle.sheet.specs.Rows.{blank, max_count};
 ghost use Rattle.sheet.specs.Sheets.{book_of};
 ghost use Rattle.charge.specs.Costs.{Placement, cost, listed, row_cost};
@@ -12,7 +11,7 @@ use sheet::{Fault, Row, Sheet};
 
 // The cost of the placement in the first entries of the buffer, one for each alarm.
 pub fn price<C: Charge>(sheet: &Sheet, charge: &C, levels: &[u8]) -> Result<u32, Fault>
-    ensures answered { numbered result ≡ numbered (priced (book_of sheet.now) (C.Charge.row charge.now) levels.now) }
+    ensures answered { result ≡ priced (book_of sheet.now) (C.Charge.row charge.now) levels.now }
     ensures placed { Decides (is_ok result) (((book_of sheet.now).n ≤ length levels.now) × Placement (book_of sheet.now) (listed levels.now)) }
 {
     if levels.len() < sheet.alarms() as usize {

@@ -3,7 +3,6 @@ use Rattle.std.proofs.Common.{◌≡◌, ℕ, zero, suc, ◌≤◌, true, List, 
 use Rattle.std.specs.Result.{result_unwrap_or}
 use Rattle.sheet.specs.Books.{Book, max_alarms}
 use Rattle.sheet.specs.Causes.{checked, first_cause}
-use Rattle.sheet.specs.Numbers.{numbered}
 use Rattle.sheet.specs.declared.fault.Fault.{Fault}
 use Rattle.charge.specs.Charges.{plain}
 use Rattle.charge.specs.Costs.{cost, listed}
@@ -21,12 +20,12 @@ zero_at (suc n) zero = refl
 zero_at (suc n) (suc v) = zero_at n v
 
 -- the value of a check that passed
-passed : (r : Result ℕ Fault) (o : Option Fault) (x : ℕ) → is_ok r ≡ true → numbered r ≡ numbered (checked o x) → result_unwrap_or r 0 ≡ x
+passed : (r : Result ℕ Fault) (o : Option Fault) (x : ℕ) → is_ok r ≡ true → r ≡ checked o x → result_unwrap_or r 0 ≡ x
 passed (Ok y) None x ok e = cc
 passed (Ok y) (Some f) x ok e = let z : ◌≡◌ {A = ℕ} 0 1 = cc in absurd (omega arith)
 passed (Err f) o x ok e = let z : ◌≡◌ {A = ℕ} 0 1 = cc in absurd (omega arith)
 
-pub top_priced : (b : Book) (r : Result ℕ Fault) → 1 ≤ b.k → b.n ≤ max_alarms → numbered r ≡ numbered (priced b plain all_on_top) → Decides (is_ok r) (FitsTop b) → result_unwrap_or r 0 ≡ top_cost b
+pub top_priced : (b : Book) (r : Result ℕ Fault) → 1 ≤ b.k → b.n ≤ max_alarms → r ≡ priced b plain all_on_top → Decides (is_ok r) (FitsTop b) → result_unwrap_or r 0 ≡ top_cost b
 top_priced b r some few e placed =
     let ok = placed.1 (few, λ v l. omega (arith, zero_at max_alarms v)) in
     passed r (first_cause (price_causes b all_on_top)) (cost b plain (listed all_on_top)) ok e ∙ ap (cost b plain) (λ i v. zero_at max_alarms v i)

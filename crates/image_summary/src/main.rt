@@ -2,7 +2,6 @@
 #![tactic(auto)]
 
 ghost use Rattle.std.specs.Prelude.{◌≡◌, is_ok, Decides};
-ghost use Rattle.sheet.specs.Numbers.{numbered};
 ghost use Rattle.sheet.specs.Sheets.{book_of};
 ghost use Rattle.charge.specs.Charges.{plain};
 ghost use Rattle.charge.specs.Prices.{priced};
@@ -27,7 +26,7 @@ struct Summary {
 
 // Prices all alarms on level 0 under the plain charge.
 fn price_on_top(sheet: &Sheet) -> Result<u32, Fault>
-    ensures answered { numbered result ≡ numbered (priced (book_of sheet.now) plain all_on_top) }
+    ensures answered { result ≡ priced (book_of sheet.now) plain all_on_top }
     ensures placed { Decides (is_ok result) (FitsTop (book_of sheet.now)) }
 {
     price(sheet, &Plain, &[0; MAX_ALARMS as usize])

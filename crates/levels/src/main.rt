@@ -3,7 +3,6 @@
 
 ghost use Rattle.levels.specs.Steps.{call_of};
 ghost use Rattle.sheet.specs.Calls.{Does};
-ghost use Rattle.sheet.specs.Numbers.{numbered};
 ghost use Rattle.sheet.specs.Sheets.{book_of};
 
 use charge::{Charge, Doubling, OwnRow, Plain, Steep, price};
@@ -34,7 +33,7 @@ impl fmt::Display for Step {
 
 // Makes the call that a step names.
 fn perform(sheet: &mut Sheet, step: Step) -> Result<(), Fault>
-    ensures { Does (book_of sheet.old) (call_of step) (numbered result) (book_of sheet.new) }
+    ensures { Does (book_of sheet.old) (call_of step) result (book_of sheet.new) }
 {
     match step {
         Step::Open { alarms, limit } => sheet.open(alarms, limit),
@@ -48,21 +47,18 @@ fn perform(sheet: &mut Sheet, step: Step) -> Result<(), Fault>
 }
 
 // Performs the steps in turn, and prints each with its answer.
-fn enter(rt: &HostRuntime, sheet: &mut Sheet, steps: &[Step]) -> io::Result<()> {
+fn enter(rt: &impl Print, sheet: &mut Sheet, steps: &[Step]) -> io::Result<()> {
     for step in steps {
         match perform(sheet, *step) {
             Ok(()) => println!(rt; "{step}: done")?,
-            Err(fault) => {
-                let number = fault.number();
-                println!(rt; "{step}: refused {number}")?;
-            }
+            Err(fault) => println!(rt; "{step}: {fault}")?,
         }
     }
     Ok(())
 }
 
 // Prints each alarm's two totals.
-fn print_standings(rt: &HostRuntime, sheet: &Sheet) -> io::Result<()> {
+fn print_standings(rt: &impl Print, sheet: &Sheet) -> io::Result<()> {
     for alarm in 0..sheet.alarms() {
         if let Ok((first, second)) = sheet.standing(alarm) {
             println!(rt; "alarm {alarm}: first {first}, second {second}")?;
@@ -72,7 +68,7 @@ fn print_standings(rt: &HostRuntime, sheet: &Sheet) -> io::Result<()> {
 }
 
 // Prints the rows in their order.
-fn print_rows(rt: &HostRuntime, sheet: &Sheet) -> io::Result<()> {
+fn print_rows(rt: &impl Print, sheet: &Sheet) -> io::Result<()> {
     for row in sheet.rows() {
         let Row {
             first,
@@ -86,7 +82,7 @@ fn print_rows(rt: &HostRuntime, sheet: &Sheet) -> io::Result<()> {
 
 // Prints what the placement costs under a charge.
 fn print_price<C: Charge>(
-    rt: &HostRuntime,
+    rt: &impl Print,
     sheet: &Sheet,
     levels: &[u8],
     name: &str,
@@ -94,15 +90,12 @@ fn print_price<C: Charge>(
 ) -> io::Result<()> {
     match price(sheet, charge, levels) {
         Ok(cost) => println!(rt; "{name} charge: cost {cost}"),
-        Err(fault) => {
-            let number = fault.number();
-            println!(rt; "{name} charge: refused {number}")
-        }
+        Err(fault) => println!(rt; "{name} charge: {fault}"),
     }
 }
 
 // Prints what the placement costs under each of the four charges.
-fn print_prices(rt: &HostRuntime, sheet: &Sheet, levels: &[u8]) -> io::Result<()> {
+fn print_prices(rt: &impl Print, sheet: &Sheet, levels: &[u8]) -> io::Result<()> {
     println!(rt; "levels {levels:?}")?;
     print_price(rt, sheet, levels, "plain", &Plain)?;
     print_price(rt, sheet, levels, "doubling", &Doubling)?;

@@ -1,8 +1,11 @@
 -- Every call keeps a sound book sound. Assumes nothing.
-use Rattle.std.proofs.Common.{◌≡◌, ℕ, ◌+◌, ◌<◌, ◌≤◌, Bool, true, false, cond, not, List, [], ◌∷◌, ◌++◌, length, is_some, Some, None, filter, Option, sym, refl, ap, ◌∙◌, subst, ⊎_elim, arith}
-use Rattle.std.proofs.lemmas.List.{length-map, get_or-map, length_push, get_or_push, get_or_append_left}
-use Rattle.std.proofs.lemmas.List.Sums.{length-filter, count_by-le-length}
-use Rattle.std.proofs.lemmas.Bool.{cases_Bool, cases_lt, cases_order, cond_both, cond-false, cond-true, both_ways}
+use Rattle.std.proofs.Common.{◌≡◌, ℕ, get_or, ◌+◌, ◌^◌, ◌<◌, ◌≤◌, Bool, if◌then◌else◌, All, sum_by, true, false, cond, not, List, [], ◌∷◌, ◌++◌, length, is_some, Some, None, Option, sym, refl, ap, ◌∙◌, subst, ⊎_elim, arith}
+use Rattle.std.proofs.lemmas.List.{length-map, get_or-map, get_or_default, length_push}
+use Rattle.std.proofs.lemmas.List.Elements.{All-filter, All-map, All-nil, All-push}
+use Rattle.std.proofs.lemmas.List.Kept.{AllPairs-filter}
+use Rattle.std.proofs.lemmas.List.Quantifiers.{all_pairs_push}
+use Rattle.std.proofs.lemmas.List.Sums.{length-filter, count_by-le-length, sum_by-le}
+use Rattle.std.proofs.lemmas.Bool.{cases_Bool, cases_order, cond_both, cond-false, cond-true, both_ways}
 use Rattle.sheet.specs.Books.{Book, Known, PairsOnce, SamePair, Sound, TrueCount, new_book, row_at, with_rows}
 use Rattle.sheet.specs.Calls.{Call, opens, notes, strikes, confines, accepted, after, count_causes, next, pair_causes, refusal, row_causes}
 use Rattle.sheet.specs.Causes.{first_cause}
@@ -10,7 +13,6 @@ use Rattle.sheet.specs.Rows.{blank, is_of, lookup, noted, raise_at, raised, row,
 use Rattle.sheet.specs.declared.fault.Fault.{Fault}
 use Rattle.sheet.specs.declared.row.Row.{Row}
 use Rattle.sheet.proofs.Causes.{append_ok, count_ok, first_cause_append, limit_ok, open_ok, pair_ok, raise_ok}
-use Rattle.sheet.proofs.Kept.{kept_one, kept_two}
 use Rattle.sheet.proofs.Rows.{Absent, Only, absent_from_lookup, is_of_from, is_of_parts, lookup_only}
 
 -- The pair's row stands nowhere else.
@@ -24,8 +26,8 @@ only_here b u v i once l y = record {
       let p = is_of_parts u v (row_at b i) y in
       let q = is_of_parts u v (row_at b k) z in
       ⊎_elim (λ e. absurd (ne e)) (⊎_elim
-      (λ lt. absurd (once k i lt l (q.0 ∙ sym p.0, q.1 ∙ sym p.1)))
-      (λ gt. absurd (once i k gt h (p.0 ∙ sym q.0, p.1 ∙ sym q.1))))
+      (λ lt. absurd (once k i blank lt l (q.0 ∙ sym p.0, q.1 ∙ sym p.1)))
+      (λ gt. absurd (once i k blank gt h (p.0 ∙ sym q.0, p.1 ∙ sym q.1))))
       (cases_order k i))
       (λ z. z)
       (cases_Bool (is_of u v (row_at b k)));
@@ -56,78 +58,64 @@ sound_empty n k p q = record {
   alarms = p;
   limit = q;
   fit = omega arith;
-  known = λ i h. absurd (omega arith);
-  counts = λ i h. absurd (omega arith);
-  once = λ i j lt h same. absurd (omega arith);
+  known = All-nil (Known n);
+  counts = All-nil TrueCount;
+  once = λ i j d lt h same. absurd (omega arith);
 }
 
 module _ (b : Book) (sound : Sound b) where
   sound_raised : (u v c m : ℕ) → lookup u v b.rows ≡ Some m → m + c ≤ 32766 → Sound (with_rows b (raise_at u v c b.rows))
   sound_raised u v c m is small =
-      let b' = with_rows b (raise_at u v c b.rows) in
-      let long : length b'.rows ≡ length b.rows = length-map b.rows (raise_row u v c) in
-      let pair = raised_pair b u v c in
+      let raise = raise_row u v c in
+      let raised_rows = raise_at u v c b.rows in
+      let long : length raised_rows ≡ length b.rows = length-map b.rows raise in
       record {
         alarms = sound.alarms;
         limit = sound.limit;
         fit = omega (arith, long, sound.fit);
-        known = λ i h. let l : i < length b.rows = omega (arith, long) in known_like b.n (row_at b' i) (row_at b i) (pair i l) (sound.known i l);
-        counts = λ i h.
-            let l : i < length b.rows = omega (arith, long) in
-            let old = sound.counts i l in
-            subst TrueCount (sym (raised_row b u v c i l))
-            (cond_both (is_of u v (row_at b i)) (raised c (row_at b i)) (row_at b i) TrueCount
+        known = All-map (Known b.n) raise b.rows
+            (λ k d h. let r = get_or b.rows k d in known_like b.n (raise r) r (raise_row_pair u v c r) (sound.known k d h));
+        counts = All-map TrueCount raise b.rows (λ k d h.
+            let r = get_or b.rows k d in
+            let old = sound.counts k d h in
+            cond_both (is_of u v r) (raised c r) r TrueCount
             (λ y.
-            let e : m ≡ (row_at b i).count = let q = lookup_only u v b.rows i (only_here b u v i sound.once l y) in cc in
+            let here = get_or_default b.rows k d blank h in
+            let e : m ≡ r.count =
+            let q = lookup_only u v b.rows k (only_here b u v k sound.once h (subst (λ x. is_of u v x ≡ true) here y)) in
+            let w = ap (λ (x : Row). x.count) here in cc in
             (omega (arith, old.0), omega arith))
             (λ _. old));
-        once = λ i j lt h same.
+        once = λ i j d lt h same.
             let l : j < length b.rows = omega (arith, long) in
-            sound.once i j lt l (pair_like (row_at b' i) (row_at b i) (row_at b' j) (row_at b j) (pair i (omega arith)) (pair j l) same);
+            let at : (k : ℕ) → k < length b.rows → SamePair (get_or raised_rows k d) (get_or b.rows k d) =
+            λ k near. subst (λ r. SamePair r (get_or b.rows k d)) (sym (get_or-map raise b.rows k d d near)) (raise_row_pair u v c (get_or b.rows k d)) in
+            sound.once i j d lt l (pair_like (get_or raised_rows i d) (get_or b.rows i d) (get_or raised_rows j d) (get_or b.rows j d) (at i (omega arith)) (at j l) same);
       }
 
   sound_appended : (r : Row) → Known b.n r → TrueCount r → Absent r.first r.second b.rows → length b.rows < 512
       → Sound (with_rows b (b.rows ++ r ∷ []))
-  sound_appended r known counts none room =
-      let b' = with_rows b (b.rows ++ r ∷ []) in
-      let long : length b'.rows ≡ length b.rows + 1 = length_push b.rows r in
-      let old : (i : ℕ) → i < length b.rows → row_at b' i ≡ row_at b i = λ i h. get_or_append_left b.rows (r ∷ []) blank i h in
-      let new : (i : ℕ) → i ≡ length b.rows → row_at b' i ≡ r = λ i e. get_or_push b.rows r blank i (sym e) in
-      -- what holds of the old rows and of the new one
-      let each : (P : Row → Type 0) → ((i : ℕ) → i < length b.rows → P (row_at b i)) → P r → (i : ℕ) → i < length b'.rows → P (row_at b' i) =
-      λ P p q i h. ⊎_elim (λ lt. subst P (sym (old i lt)) (p i lt)) (λ ge. subst P (sym (new i (omega (arith, long)))) q) (cases_lt i (length b.rows)) in
-      record {
-        alarms = sound.alarms;
-        limit = sound.limit;
-        fit = omega (arith, long);
-        known = each (Known b.n) sound.known known;
-        counts = each TrueCount sound.counts counts;
-        once = λ i j lt h same.
-            let l : i < length b.rows = omega (arith, long) in
-            let same' : SamePair (row_at b i) (row_at b' j) = subst (λ s. SamePair s (row_at b' j)) (old i l) same in
-            ⊎_elim
-            (λ m. sound.once i j lt m (subst (SamePair (row_at b i)) (old j m) same'))
-            (λ m.
-            let s = subst (SamePair (row_at b i)) (new j (omega (arith, long))) same' in
-            both_ways (is_of r.first r.second (row_at b i)) (none i l) (is_of_from r.first r.second (row_at b i) s.0 s.1))
-            (cases_lt j (length b.rows));
-      }
+  sound_appended r known counts none room = record {
+    alarms = sound.alarms;
+    limit = sound.limit;
+    fit = omega (arith, length_push b.rows r);
+    known = All-push (Known b.n) b.rows r sound.known known;
+    counts = All-push TrueCount b.rows r sound.counts counts;
+    once = all_pairs_push (λ x y. ¬ SamePair x y) b.rows r sound.once (λ k d h same.
+        let p = subst (λ x. SamePair x r) (get_or_default b.rows k d blank h) same in
+        both_ways (is_of r.first r.second (row_at b k)) (none k h) (is_of_from r.first r.second (row_at b k) p.0 p.1));
+  }
 
   sound_without : (u v : ℕ) → Sound (with_rows b (without u v b.rows))
   sound_without u v =
       let p : Row → Bool = λ r. not (is_of u v r) in
-      let b' = with_rows b (filter p b.rows) in
-      let each : (P : Row → Type 0) → ((i : ℕ) → i < length b.rows → P (row_at b i)) → (i : ℕ) → i < length b'.rows → P (row_at b' i) =
-      λ P h i l. let k = kept_one blank p b.rows i l in subst P (sym k.2) (h k.0 k.1) in
       record {
         alarms = sound.alarms;
         limit = sound.limit;
         fit = omega (arith, length-filter p b.rows, count_by-le-length p b.rows, sound.fit);
-        known = each (Known b.n) sound.known;
-        counts = each TrueCount sound.counts;
-        once = λ i j lt h same.
-            let k = kept_two blank p b.rows i j lt h in
-            sound.once k.0 k.1 k.2 k.3 (subst (λ r. SamePair r (row_at b k.1)) k.4 (subst (SamePair (row_at b' i)) k.5 same));
+        known = All-filter p (Known b.n) b.rows sound.known;
+        counts = All-filter p TrueCount b.rows sound.counts;
+        once = AllPairs-filter (λ x y. ¬ SamePair x y) p b.rows sound.once;
       }
 
   -- where no cause applies
@@ -165,3 +153,12 @@ sound_new = sound_empty 1 1 (omega arith, omega arith) (omega arith, omega arith
 pub sound_after : (b : Book) → Sound b → (cs : List Call) → Sound (after b cs)
 sound_after b sound [] = sound
 sound_after b sound (c ∷ cs) = sound_after (next b c) (sound_next b sound c) cs
+
+-- A sum over the rows, to which each row adds its count or nothing, fits 32 bits.
+pub counts_fit : (b : Book) → Sound b → (wanted : Row → Bool) → sum_by (λ r. if wanted r then r.count else 0) b.rows < 2 ^ 32
+counts_fit b sound wanted =
+    let each : All (λ (r : Row). (if wanted r then r.count else 0) ≤ 32766) b.rows =
+    λ k d h.
+    let r = get_or b.rows k d in
+    cond_both (wanted r) r.count 0 (λ n. n ≤ 32766) (λ _. (sound.counts k d h).1) (λ _. omega arith) in
+    omega (arith, sum_by-le (λ (r : Row). if wanted r then r.count else 0) 32766 b.rows each, sound.fit)

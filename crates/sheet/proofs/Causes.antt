@@ -6,10 +6,9 @@ use Rattle.sheet.specs.Books.{Book, max_alarms, max_limit, max_rows}
 use Rattle.sheet.specs.Calls.{opens, count_causes, limit_causes, pair_causes, refusal, row_causes}
 use Rattle.sheet.specs.Causes.{Cause, checked, first_cause}
 use Rattle.sheet.specs.Rows.{max_count}
-use Rattle.sheet.specs.declared.fault.Fault.{Fault}
 
 -- where none of two lists applies, none of either does
-pub first_cause_append : (xs ys : List Cause) → first_cause (xs ++ ys) ≡ None → (first_cause xs ≡ None) × (first_cause ys ≡ None)
+pub first_cause_append : {F : Type 0} (xs ys : List (Cause F)) → first_cause (xs ++ ys) ≡ None → (first_cause xs ≡ None) × (first_cause ys ≡ None)
 first_cause_append [] ys e = (refl, e)
 first_cause_append (x ∷ xs) ys e =
     let r : (x.applies ≡ false) × (first_cause (xs ++ ys) ≡ None) = grind arith in
@@ -17,18 +16,18 @@ first_cause_append (x ∷ xs) ys e =
     (cond-false x.applies _ _ r.0 ∙ s.0, s.1)
 
 -- causes that do not apply leave the answer to the next
-pub first_cause_past : (xs ys : List Cause) → first_cause xs ≡ None → first_cause (xs ++ ys) ≡ first_cause ys
+pub first_cause_past : {F : Type 0} (xs ys : List (Cause F)) → first_cause xs ≡ None → first_cause (xs ++ ys) ≡ first_cause ys
 first_cause_past [] ys e = refl
 first_cause_past (x ∷ xs) ys e =
     let r : (x.applies ≡ false) × (first_cause xs ≡ None) = grind arith in
     cond-false x.applies _ _ r.0 ∙ first_cause_past xs ys r.1
 
 -- a check that passed: nothing refused it, and it answers its value
-pub checked_free : {X : Type 0} (o : Option Fault) (x y : X) → checked o x ≡ Ok y → o ≡ None
+pub checked_free : {F X : Type 0} (o : Option F) (x y : X) → checked o x ≡ Ok y → o ≡ None
 checked_free None x y e = refl
 checked_free (Some f) x y e = let z : ◌≡◌ {A = ℕ} 0 1 = cc in absurd (omega arith)
 
-pub checked_value : {X : Type 0} (o : Option Fault) (x y : X) → checked o x ≡ Ok y → x ≡ y
+pub checked_value : {F X : Type 0} (o : Option F) (x y : X) → checked o x ≡ Ok y → x ≡ y
 checked_value None x y e = cc
 checked_value (Some f) x y e = let z : ◌≡◌ {A = ℕ} 0 1 = cc in absurd (omega arith)
 

@@ -1,7 +1,5 @@
-pub mod Kept
 pub mod Causes
 pub mod Rows
 pub mod Books
-pub mod Tables
 pub mod Calls
 pub mod BookLaws

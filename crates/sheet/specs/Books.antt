@@ -1,5 +1,5 @@
 -- The book: what a sheet stands for, and what holds of each book that can come about.
-use Rattle.std.specs.Prelude.{◌≡◌, ℕ, ◌<◌, ◌≤◌, List, [], length, ◌≢◌, slice_index_or}
+use Rattle.std.specs.Prelude.{◌≡◌, ◌≢◌, ℕ, ◌<◌, ◌≤◌, List, [], length, slice_index_or, All, AllPairs}
 use Rattle.sheet.specs.Rows.{blank, max_count}
 use Rattle.sheet.specs.declared.row.Row.{Row}
 
@@ -57,15 +57,15 @@ RowsFit b = length b.rows ≤ max_rows
 
 -- each row names two different alarms below n
 abbrev pub AlarmsKnown : Book → Type 0
-AlarmsKnown b = (i : ℕ) → i < length b.rows → Known b.n (row_at b i)
+AlarmsKnown b = All (Known b.n) b.rows
 
 -- each row has a true count
 abbrev pub CountsTrue : Book → Type 0
-CountsTrue b = (i : ℕ) → i < length b.rows → TrueCount (row_at b i)
+CountsTrue b = All TrueCount b.rows
 
 -- no pair has two rows
 abbrev pub PairsOnce : Book → Type 0
-PairsOnce b = (i j : ℕ) → i < j → j < length b.rows → SamePair (row_at b i) (row_at b j) → ⊥
+PairsOnce b = AllPairs (λ r s. ¬ SamePair r s) b.rows
 
 -- what holds of every sheet's book
 pub record Sound (b : Book) : Type 0 where

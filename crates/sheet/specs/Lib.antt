@@ -4,6 +4,5 @@ pub mod Books
 pub mod Causes
 pub mod Calls
 pub mod Tables
-pub mod Changes
 pub mod Sheets
 pub mod Laws

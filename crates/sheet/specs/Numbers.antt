@@ -1,6 +1,5 @@
--- The number of each fault.
-use Rattle.std.specs.Prelude.{ℕ, Result}
-use Rattle.std.specs.Result.{result_map_both}
+-- The number of each fault, and how it is told.
+use Rattle.std.specs.Prelude.{ℕ, List, ◌++◌, codes, decimal}
 use Rattle.sheet.specs.declared.fault.Fault.{Fault}
 use Rattle.sheet.specs.declared.fault.Fault.TheVariants.{Alarms, Limit, UnknownAlarm, SameAlarm, ZeroCount, PinnedCount, NoRow, CountOverflow, Full, ShortLevels, ChargeLength, ChargeTooLarge, NotConvex, LevelBeyondLimit}
 
@@ -20,6 +19,6 @@ number_of ChargeTooLarge = 23
 number_of NotConvex = 24
 number_of LevelBeyondLimit = 26
 
--- an answer, with a refusal by its number
-abbrev pub numbered : {X : Type 0} → Result X Fault → Result X ℕ
-numbered r = result_map_both (λ x. x) number_of r
+-- `refused ` and the number in decimal
+abbrev pub told : Fault → List ℕ
+told f = codes "refused " ++ decimal (number_of f)

@@ -1,5 +1,5 @@
 -- Rows: how often one alarm came up shortly before another.
-use Rattle.std.specs.Prelude.{ℕ, ◌+◌, Bool, cond, not, ◌&&◌, List, [], ◌∷◌, ◌++◌, map, is_some, Some, None, sum_by, filter, Option, ◌==◌}
+use Rattle.std.specs.Prelude.{ℕ, ◌+◌, Bool, if◌then◌else◌, not, ◌&&◌, List, [], ◌∷◌, ◌++◌, map, is_some, Some, None, sum_by, filter, Option, ◌==◌}
 use Rattle.sheet.specs.declared.row.Row.{Row}
 
 -- the largest true count: the runtime's counter stops at the next number
@@ -25,15 +25,15 @@ raised c r = row r.first r.second (r.count + c)
 -- the count in the pair's row, if it has one
 abbrev pub lookup : ℕ → ℕ → List Row → Option ℕ
 lookup u v [] = None
-lookup u v (r ∷ rs) = cond (is_of u v r) (Some r.count) (lookup u v rs)
+lookup u v (r ∷ rs) = if is_of u v r then (Some r.count) else (lookup u v rs)
 
 -- the rows with c more at the pair's
 abbrev pub raise_at : ℕ → ℕ → ℕ → List Row → List Row
-raise_at u v c rs = map (λ r. cond (is_of u v r) (raised c r) r) rs
+raise_at u v c rs = map (λ r. if is_of u v r then (raised c r) else r) rs
 
 -- the rows with c more for the pair: at its row, or at a new one at the end
 abbrev pub noted : ℕ → ℕ → ℕ → List Row → List Row
-noted u v c rs = cond (is_some (lookup u v rs)) (raise_at u v c rs) (rs ++ row u v c ∷ [])
+noted u v c rs = if is_some (lookup u v rs) then (raise_at u v c rs) else (rs ++ row u v c ∷ [])
 
 -- the rows but the pair's, in their order
 abbrev pub without : ℕ → ℕ → List Row → List Row
@@ -41,8 +41,8 @@ without u v rs = filter (λ r. not (is_of u v r)) rs
 
 -- the counts of the rows in which the alarm comes first, added up
 abbrev pub total_first : ℕ → List Row → ℕ
-total_first u rs = sum_by (λ r. cond (r.first == u) r.count 0) rs
+total_first u rs = sum_by (λ r. if r.first == u then r.count else 0) rs
 
 -- and of those in which it comes second
 abbrev pub total_second : ℕ → List Row → ℕ
-total_second u rs = sum_by (λ r. cond (r.second == u) r.count 0) rs
+total_second u rs = sum_by (λ r. if r.second == u then r.count else 0) rs

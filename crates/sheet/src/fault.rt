@@ -1,37 +1,41 @@
 // Why a call is refused.
-ghost use Rattle.std.specs.Prelude.{◌≡◌};
-ghost use Rattle.sheet.specs.Numbers.{number_of};
+ghost use Rattle.std.specs.Prelude.{◌≡◌, Some};
+ghost use Rattle.sheet.specs.Numbers.{number_of, told};
 
+use std::error::Error;
+use std::fmt;
+
+// Each fault has the number by which it is known outside.
 #[derive(Clone, Copy, PartialEq, Eq, Debug)]
 pub enum Fault {
     // The number of alarms is not 1 to 64.
-    Alarms,
+    Alarms = 10,
     // The level limit is not 1 to 8.
-    Limit,
+    Limit = 11,
     // An alarm is not below the number of alarms.
-    UnknownAlarm,
+    UnknownAlarm = 12,
     // Both alarms of a pair are the same.
-    SameAlarm,
+    SameAlarm = 13,
     // A count of 0.
-    ZeroCount,
+    ZeroCount = 14,
     // A count of 32767 or more: the runtime's counter was pinned.
-    PinnedCount,
+    PinnedCount = 15,
     // The pair has no row.
-    NoRow,
+    NoRow = 16,
     // The row's new count would be above 32766.
-    CountOverflow,
+    CountOverflow = 17,
     // A new pair while 512 rows stand.
-    Full,
+    Full = 18,
     // The level buffer is shorter than the number of alarms.
-    ShortLevels,
+    ShortLevels = 20,
     // A charge of other than eight numbers.
-    ChargeLength,
+    ChargeLength = 22,
     // A charge with a number above 200.
-    ChargeTooLarge,
+    ChargeTooLarge = 23,
     // A charge that is not convex.
-    NotConvex,
+    NotConvex = 24,
     // A level is not below the limit.
-    LevelBeyondLimit,
+    LevelBeyondLimit = 26,
 }
 
 impl Fault {
@@ -40,21 +44,16 @@ impl Fault {
         ensures value { result ≡ number_of self.now }
         ensures apart { (other : Fault) → number_of other ≡ result → other ≡ self.now }
     {
-        match self {
-            Fault::Alarms => 10,
-            Fault::Limit => 11,
-            Fault::UnknownAlarm => 12,
-            Fault::SameAlarm => 13,
-            Fault::ZeroCount => 14,
-            Fault::PinnedCount => 15,
-            Fault::NoRow => 16,
-            Fault::CountOverflow => 17,
-            Fault::Full => 18,
-            Fault::ShortLevels => 20,
-            Fault::ChargeLength => 22,
-            Fault::ChargeTooLarge => 23,
-            Fault::NotConvex => 24,
-            Fault::LevelBeyondLimit => 26,
-        }
+        *self as u8
     }
 }
+
+impl fmt::Display for Fault {
+    ghost output = { λ f. Some (told f) };
+
+    fn fmt<W: fmt::Write>(&self, f: &mut fmt::Formatter<W>) -> fmt::Result {
+        write!(f, "refused {}", self.number())
+    }
+}
+
+impl Error for Fault {}

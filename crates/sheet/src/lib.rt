@@ -11,5 +11,4 @@ pub use fault::Fault;
 pub use laws::book_laws;
 pub use row::{MAX_COUNT, Row};
 pub use sheet::Sheet;
-pub use sheet::calls::{MAX_ALARMS, MAX_LIMIT};
-pub use table::MAX_ROWS;
+pub use table::{MAX_ALARMS, MAX_LIMIT, MAX_ROWS};

@@ -1,15 +1,15 @@
-// The plain table inside a sheet: the rows in the order in which they were added, at the front of an array.
-ghost use Rattle.std.specs.Prelude.{◌≡◌, ◌+◌, ◌<◌, [], ◌∷◌, ◌++◌, length, Ok, nat_le, nat_lt, slice_set};
-ghost use Rattle.std.specs.List.{remove};
-ghost use Rattle.sheet.specs.Books.{PairsOnce, max_rows, row_at};
-ghost use Rattle.sheet.specs.Calls.{count_causes, notes, pair_causes, strikes};
-ghost use Rattle.sheet.specs.Causes.{checked, first_cause, refused_if};
-ghost use Rattle.sheet.specs.Rows.{max_count, raised};
-ghost use Rattle.sheet.specs.Changes.{Changes, Performs, PlaceOf};
-ghost use Rattle.sheet.specs.Tables.{Sized, rows_of, table_book};
+// The plain table inside a sheet: the rows in the order in which they were added, in an array of fixed size.
+ghost use Rattle.std.specs.Prelude.{◌≡◌, [], OnErr};
+ghost use Rattle.sheet.specs.Causes.{checked, first_cause};
+ghost use Rattle.sheet.specs.Calls.{count_causes};
 
 use crate::fault::Fault;
 use crate::row::{MAX_COUNT, Row};
+use arrayvec::ArrayVec;
+
+pub const MAX_ALARMS: u8 = 64;
+
+pub const MAX_LIMIT: u8 = 8;
 
 pub const MAX_ROWS: usize = 512;
 
@@ -17,13 +17,55 @@ pub const MAX_ROWS: usize = 512;
 pub(crate) struct Table {
     pub(crate) alarms: u8,
     pub(crate) limit: u8,
-    pub(crate) used: usize,
-    pub(crate) rows: [Row; MAX_ROWS],
+    pub(crate) rows: ArrayVec<Row, MAX_ROWS>,
 }
 
 impl Table {
+    ghost use Rattle.std.specs.List.{position};
+    ghost use Rattle.sheet.specs.Books.{PairsOnce};
+    ghost use Rattle.sheet.specs.Calls.{Does, confines, notes, opens, pair_causes, strikes};
+    ghost use Rattle.sheet.specs.Rows.{is_of};
+    ghost use Rattle.sheet.specs.Tables.{table_book};
+
+    // A table without rows.
+    pub(crate) fn new(alarms: u8, limit: u8) -> Table
+        ensures { table_book result ≡ record { n = alarms; k = limit; rows = [] } }
+    {
+        Table {
+            alarms,
+            limit,
+            rows: ArrayVec::new(),
+        }
+    }
+
+    // Sets the number of alarms and the limit, and drops all rows.
+    pub(crate) fn open(&mut self, alarms: u8, limit: u8) -> Result<(), Fault>
+        ensures does { Does (table_book self.old) (opens alarms limit) result (table_book self.new) }
+        ensures kept { OnErr result (self.new ≡ self.old) }
+    {
+        if !(1..=MAX_ALARMS).contains(&alarms) {
+            return Err(Fault::Alarms);
+        }
+        self.confine(limit)?;
+        self.alarms = alarms;
+        self.rows.clear();
+        Ok(())
+    }
+
+    // Sets the limit and nothing else.
+    pub(crate) fn confine(&mut self, limit: u8) -> Result<(), Fault>
+        ensures does { Does (table_book self.old) (confines limit) result (table_book self.new) }
+        ensures kept { OnErr result (self.new ≡ self.old) }
+    {
+        if !(1..=MAX_LIMIT).contains(&limit) {
+            return Err(Fault::Limit);
+        }
+        self.limit = limit;
+        Ok(())
+    }
+
     // Refuses a pair that is not of two different known alarms.
-    pub(crate) fn check_pair(&self, first: u8, second: u8) -> Result<(), Fault>
+    fn check_pair(&self, first: u8, second: u8) -> Result<(), Fault>
         ensures { result ≡ checked (first_cause (pair_causes (table_book self.now) first second)) tt }
     {
         if first >= self.alarms || second >= self.alarms {
@@ -36,81 +78,44 @@ impl Table {
     }
 
     // The place of the pair's row, if it has one.
-    pub(crate) fn find(&self, first: u8, second: u8) -> Option<usize>
-        requires { Sized self.now }
-        ensures { PlaceOf first second (rows_of self.now) result }
+    fn find(&self, first: u8, second: u8) -> Option<usize>
+        ensures { result ≡ position (is_of first second) (table_book self.now).rows }
     {
-        for (i, row) in self.rows[0..self.used].iter().enumerate() {
-            if row.is_of(first, second) {
-                return Some(i);
-            }
-        }
-        None
-    }
-
-    // Raises the count of the row at a place.
-    pub(crate) fn raise(&mut self, at: usize, by: u16) -> Result<(), Fault>
-        requires sized { Sized self.old }
-        requires within { at < length (rows_of self.old) }
-        ensures told { result ≡ refused_if Fault.CountOverflow (nat_lt max_count ((row_at (table_book self.old) at).count + by)) }
-        ensures table { Changes self.old (slice_set (rows_of self.old) at (raised by (row_at (table_book self.old) at))) result self.new }
-    {
-        self.rows[at].raise(by)
-    }
-
-    // Adds a row at the end, or refuses where the whole array is in use.
-    pub(crate) fn append(&mut self, row: Row) -> Result<(), Fault>
-        requires { Sized self.old }
-        ensures told { result ≡ refused_if Fault.Full (nat_le max_rows (length (rows_of self.old))) }
-        ensures table { Changes self.old (rows_of self.old ++ row ∷ []) result self.new }
-    {
-        if self.used == MAX_ROWS {
-            return Err(Fault::Full);
-        }
-        self.rows[self.used] = row;
-        self.used += 1;
-        Ok(())
-    }
-
-    // Takes out the row at a place. Later rows move up by one.
-    pub(crate) fn remove(&mut self, at: usize)
-        requires sized { Sized self.old }
-        requires within { at < length (rows_of self.old) }
-        ensures { Changes self.old (remove (rows_of self.old) at) (Ok tt) self.new }
-    {
-        self.rows.copy_within(at + 1..self.used, at);
-        self.used -= 1;
+        self.rows.iter().position(|row| row.is_of(first, second))
     }
 
     // Raises the count of the pair's row, or adds a row for the pair at the end.
     pub(crate) fn note(&mut self, first: u8, second: u8, count: u32) -> Result<(), Fault>
-        requires sized { Sized self.old }
-        requires once { PairsOnce (table_book self.old) }
-        ensures { Performs self.old (notes first second count) result self.new }
+        requires { PairsOnce (table_book self.old) }
+        ensures does { Does (table_book self.old) (notes first second count) result (table_book self.new) }
+        ensures kept { OnErr result (self.new ≡ self.old) }
     {
         self.check_pair(first, second)?;
         let count = true_count(count)?;
         match self.find(first, second) {
-            Some(at) => self.raise(at, count),
-            None => self.append(Row {
-                first,
-                second,
-                count,
-            }),
+            Some(at) => self.rows[at].raise(count),
+            None => self
+                .rows
+                .try_push(Row {
+                    first,
+                    second,
+                    count,
+                })
+                .map_err(|_| Fault::Full),
         }
     }
 
-    // Removes the pair's row.
+    // Removes the pair's row. Later rows move up by one.
     pub(crate) fn strike(&mut self, first: u8, second: u8) -> Result<(), Fault>
-        requires sized { Sized self.old }
-        requires once { PairsOnce (table_book self.old) }
-        ensures { Performs self.old (strikes first second) result self.new }
+        requires { PairsOnce (table_book self.old) }
+        ensures does { Does (table_book self.old) (strikes first second) result (table_book self.new) }
+        ensures kept { OnErr result (self.new ≡ self.old) }
     {
         self.check_pair(first, second)?;
         let Some(at) = self.find(first, second) else {
             return Err(Fault::NoRow);
         };
-        self.remove(at);
+        self.rows.remove(at);
         Ok(())
     }
 }
@@ -122,8 +127,8 @@ fn true_count(count: u32) -> Result<u16, Fault>
     if count == 0 {
         return Err(Fault::ZeroCount);
     }
-    if count > MAX_COUNT as u32 {
-        return Err(Fault::PinnedCount);
-    }
-    Ok(count as u16)
+    u16::try_from(count)
+        .ok()
+        .filter(|&count| count <= MAX_COUNT)
+        .ok_or(Fault::PinnedCount)
 }

@@ -1,7 +1,6 @@
 // How an own row is made, replaced and asked.
 ghost use Rattle.std.specs.Prelude.{◌≡◌, true, false, length, is_ok, Decides};
 ghost use Rattle.sheet.specs.Causes.{checked, first_cause};
-ghost use Rattle.sheet.specs.Numbers.{numbered};
 ghost use Rattle.charge.specs.Charges.{Convex, Fair, Small, distances, plain};
 ghost use Rattle.charge.specs.Fits.{fit_causes};
 ghost use Rattle.charge.specs.OwnRows.{row_of};
@@ -22,7 +21,7 @@ impl OwnRow {
 
     // Takes the numbers for its row, if they are eight, within 200 and convex.
     pub fn fit(&mut self, numbers: &[u16]) -> Result<(), Fault>
-        ensures answered { numbered result ≡ numbered (checked (first_cause (fit_causes numbers.now)) tt) }
+        ensures answered { result ≡ checked (first_cause (fit_causes numbers.now)) tt }
         ensures fair { Decides (is_ok result) (Fair numbers.now) }
         ensures taken { is_ok result ≡ true → row_of self.new ≡ numbers.now }
         ensures kept { is_ok result ≡ false → self.new ≡ self.old }

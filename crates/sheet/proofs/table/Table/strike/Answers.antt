@@ -1,9 +1,15 @@
-use Rattle.std.proofs.Common.{Ok, sym, ◌∙◌}
-use Rattle.sheet.proofs.Calls.{strikes_row}
+use Rattle.std.proofs.Common.{sym, refl, ap, ◌∙◌, rules}
+use Rattle.sheet.specs.Books.{with_rows}
+use Rattle.sheet.specs.Tables.{table_book}
+use Rattle.sheet.proofs.Calls.{strikes_none, strikes_row}
 use Rattle.sheet.proofs.table.Table.strike.Goals as goal
 
-pub returns : goal.returns
-returns c =
-    strikes_row c.args.self.now c.remove.new.self c.requires.once c.args.first c.args.second (Ok tt)
-    (sym c.check_pair.ensures ∙ c.in_ok-check_pair.was)
-    c.in-Some.at c.in-Some.ensures c.remove.ensures
+pub returns-clause-does : goal.returns-clause-does
+returns-clause-does c =
+    strikes_row _ c.requires c.args.first c.args.second (sym c.check_pair.ensures ∙ c.in_ok-check_pair.was)
+    _ c.in-Some.at (sym c.find.ensures ∙ c.in-Some.is) (ap (with_rows (table_book c.args.self.now)) c.remove.ensures.items)
+
+pub returns-in_default-clause-does : goal.returns-in_default-clause-does
+returns-in_default-clause-does c =
+    strikes_none _ c.requires c.args.first c.args.second (sym c.check_pair.ensures ∙ c.in_ok-check_pair.was)
+    _ (sym c.find.ensures ∙ search rules) refl
