@@ -1,5 +1,5 @@
 -- From what a change does to the rows to what the call does to the book. Assumes nothing.
-use Rattle.std.proofs.Common.{◌≡◌, ℕ, ◌+◌, not, nat_lt, nat_le, [], ◌∷◌, ◌++◌, length, set, is_some, if◌then◌else◌, Some, None, Ok, Err, Option, Result, OnOk, OnErr, sym, refl, ap, ◌∙◌, subst}
+use Rattle.std.proofs.Common.{◌≡◌, ℕ, ◌+◌, not, nat_lt, nat_le, [], ◌∷◌, ◌++◌, length, set, is_some, if◌then◌else◌, Some, None, Ok, Err, Option, Result, OnOk, OnErr, IfSome, IfNone, sym, refl, ap, ◌∙◌, subst}
 use Rattle.std.specs.List.{remove, position}
 use Rattle.std.proofs.lemmas.Bool.{cond-true, cond-false}
 use Rattle.std.proofs.lemmas.List.Quantifiers.{position-Some}
@@ -86,7 +86,7 @@ module _ (b : Book) (once : PairsOnce b) (u v : ℕ) (pair : checked {X = Unit {
       ∙ ap (λ q. first_cause ((NoRow if not (is_some q)) ∷ [])) is
 
   module _ (b' : Book) where
-    pub strikes_row : (i : ℕ) → position (is_of u v) b.rows ≡ Some i → b' ≡ with_rows b (remove b.rows i) → Does b (strikes u v) (Ok tt) b'
+    strikes_row : (i : ℕ) → position (is_of u v) b.rows ≡ Some i → b' ≡ with_rows b (remove b.rows i) → Does b (strikes u v) (Ok tt) b'
     strikes_row i place e =
         let only = placed i place in
         does_by b b' (strikes u v) (Ok tt)
@@ -94,6 +94,13 @@ module _ (b : Book) (once : PairsOnce b) (u v : ℕ) (pair : checked {X = Unit {
         (e ∙ ap (with_rows b) (sym (without_only u v b.rows i only)))
         tt
 
-    pub strikes_none : position (is_of u v) b.rows ≡ None → b' ≡ b → Does b (strikes u v) (Err NoRow) b'
+    strikes_none : position (is_of u v) b.rows ≡ None → b' ≡ b → Does b (strikes u v) (Err NoRow) b'
     strikes_none none e =
         does_by b b' (strikes u v) (Err NoRow) (ap (λ o. checked o tt) (sym (strike_refusal _ (lookup_none u v b.rows none)))) tt e
+
+    -- the row is taken out at the place that a search gives, if it gives any
+    pub strikes_found : (o : Option ℕ) (r : Result (Unit {0}) Fault) → o ≡ position (is_of u v) b.rows
+        → IfSome o (λ i. (r ≡ Ok tt) × (b' ≡ with_rows b (remove b.rows i))) → IfNone o ((r ≡ Err NoRow) × (b' ≡ b))
+        → Does b (strikes u v) r b'
+    strikes_found None r e some none = subst (λ q. Does b (strikes u v) q b') (sym none.0) (strikes_none (sym e) none.1)
+    strikes_found (Some i) r e some none = subst (λ q. Does b (strikes u v) q b') (sym some.0) (strikes_row i (sym e) some.1)

@@ -94,6 +94,17 @@ impl Sheet {
     }
 }
 
+impl Default for Sheet {
+    ghost use Rattle.sheet.specs.Books.{new_book};
+    ghost use Rattle.sheet.specs.Sheets.{book_of};
+
+    ghost is_default = { λ sheet. book_of sheet ≡ new_book };
+
+    fn default() -> Sheet {
+        Sheet::new()
+    }
+}
+
 // An alarm's total on each side of the rows.
 fn totals(rows: &[Row], alarm: u8) -> (u32, u32)
     requires first_fits { total_first alarm rows.now < 2 ^ 32 }

@@ -1,5 +1,5 @@
 // The plain table inside a sheet: the rows in the order in which they were added, in an array of fixed size.
-ghost use Rattle.std.specs.Prelude.{◌≡◌, [], OnErr};
+ghost use Rattle.std.specs.Prelude.{◌≡◌, ◌<◌, [], length, IfNone, IfSome, OnErr, remove};
 ghost use Rattle.sheet.specs.Causes.{checked, first_cause};
 ghost use Rattle.sheet.specs.Calls.{count_causes};
 
@@ -22,7 +22,8 @@ pub(crate) struct Table {
 
 impl Table {
     ghost use Rattle.std.specs.List.{position};
-    ghost use Rattle.sheet.specs.Books.{PairsOnce};
+    ghost use Rattle.std.specs.Option.{ForSome};
+    ghost use Rattle.sheet.specs.Books.{PairsOnce, with_rows};
     ghost use Rattle.sheet.specs.Calls.{Does, confines, notes, opens, pair_causes, strikes};
     ghost use Rattle.sheet.specs.Rows.{is_of};
     ghost use Rattle.sheet.specs.Tables.{table_book};
@@ -84,6 +85,21 @@ impl Table {
         self.rows.iter().position(|row| row.is_of(first, second))
     }
 
+    // Takes out the row at a place, if there is one.
+    fn remove(&mut self, at: Option<usize>) -> Result<(), Fault>
+        requires { ForSome at (λ i. i < length (table_book self.old).rows) }
+        ensures some { IfSome at (λ i. (result ≡ Ok tt)
+            × (table_book self.new ≡ with_rows (table_book self.old) (remove (table_book self.old).rows i))) }
+        ensures none { IfNone at ((result ≡ Err Fault.NoRow) × (table_book self.new ≡ table_book self.old)) }
+        ensures kept { OnErr result (self.new ≡ self.old) }
+    {
+        let Some(at) = at else {
+            return Err(Fault::NoRow);
+        };
+        self.rows.remove(at);
+        Ok(())
+    }
+
     // Raises the count of the pair's row, or adds a row for the pair at the end.
     pub(crate) fn note(&mut self, first: u8, second: u8, count: u32) -> Result<(), Fault>
         requires { PairsOnce (table_book self.old) }
@@ -112,11 +128,8 @@ impl Table {
         ensures kept { OnErr result (self.new ≡ self.old) }
     {
         self.check_pair(first, second)?;
-        let Some(at) = self.find(first, second) else {
-            return Err(Fault::NoRow);
-        };
-        self.rows.remove(at);
-        Ok(())
+        let at = self.find(first, second);
+        self.remove(at)
     }
 }
 

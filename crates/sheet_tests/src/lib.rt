@@ -8,10 +8,7 @@ mod tests {
 
     // The number of a refusal, or 0 where there was none.
     fn number_of(answer: Result<(), Fault>) -> u8 {
-        match answer {
-            Ok(()) => 0,
-            Err(fault) => fault.number(),
-        }
+        answer.err().map_or(0, |fault| fault.number())
     }
 
     // The last row, if there is any.
