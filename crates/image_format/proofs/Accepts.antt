@@ -1,7 +1,7 @@
 -- Fields that run through have the shape of an accepted image. Assumes nothing.
 use Rattle.std.proofs.Common.{◌≡◌, ℕ, ◌+◌, ◌<◌, ◌≤◌, true, false, cond, not, eqb, ltb, leb, ◌⊎◌, List, [], ◌∷◌, ◌++◌, map, length, get_or, Ok, Err, Result, sym, refl, ap, ◌∙◌, inl, inr, ⊎_elim, arith}
 use Rattle.std.proofs.lemmas.List.{append-nil, append_assoc, length_push}
-use Rattle.std.proofs.ByRecursion.{All-push}
+use Rattle.std.proofs.lemmas.List.Elements.{All-nil, All-push}
 use Rattle.std.proofs.lemmas.Bool.{and_parts, eqb-true, eq-eqb, ne_eqb, cond-true, cond-false, leb-true, cases_eq}
 use Rattle.std.proofs.lemmas.Bool.Decides.{nat_tests}
 use Rattle.sheet.specs.Books.{Book, max_alarms, max_limit}
@@ -179,7 +179,7 @@ module _ {S : Type 0} (K : Kind S) (three : 3 ≤ K.tag) where
       let r = run_cons (start u) last f fs h in
       let l = limit_step u f r.0 r.1 in
       let k = get_or f.value 0 0 in
-      let n = names_run fs u k [] last q x (omega arith, tt, λ i j a b. absurd (omega arith)) (ap (λ s. runs K s fs) l.3 ∙ r.2) e in
+      let n = names_run fs u k [] last q x (omega arith, All-nil Name, λ i j a b. absurd (omega arith)) (ap (λ s. runs K s fs) l.3 ∙ r.2) e in
       record {
         limit = k;
         names = n.all;

@@ -1,6 +1,6 @@
 -- Fields with the shape of an accepted image run through. Assumes nothing.
-use Rattle.std.proofs.Common.{◌≡◌, ℕ, ◌+◌, ◌<◌, ◌≤◌, true, false, eqb, ltb, leb, List, [], ◌∷◌, ◌++◌, map, length, Ok, sym, refl, ap, ◌∙◌, subst, arith}
-use Rattle.std.specs.List.{AllByRecursion}
+use Rattle.std.proofs.Common.{◌≡◌, ℕ, ◌+◌, ◌<◌, ◌≤◌, true, false, eqb, ltb, leb, List, [], ◌∷◌, ◌++◌, map, length, All, Ok, sym, refl, ap, ◌∙◌, subst, arith}
+use Rattle.std.proofs.lemmas.List.Elements.{All-head, All-tail}
 use Rattle.std.proofs.lemmas.List.{append-nil, append_assoc, length-append}
 use Rattle.std.proofs.lemmas.Bool.{and_from, cond-true, cond-false, le-leb, lt-leb, lt-ltb, eq-eqb, ne_eqb}
 use Rattle.std.proofs.lemmas.Bool.Decides.{nat_tests}
@@ -23,13 +23,13 @@ module _ {S : Type 0} (K : Kind S) (three : 3 ≤ K.tag) where
       ∙ pass_not (printable v) _ _ (printable_all v name.bytes)
       ∙ cond-false (given v names) _ _ new
 
-  names_taken : (rest : List Field) (last : State S) (u : S) (k : ℕ) (more names : List (List ℕ)) → length (names ++ more) ≤ max_alarms → AllByRecursion Name more → Apart (names ++ more) → runs K (naming u k (names ++ more)) rest ≡ Ok last → runs K (naming u k names) (map name_field more ++ rest) ≡ Ok last
+  names_taken : (rest : List Field) (last : State S) (u : S) (k : ℕ) (more names : List (List ℕ)) → length (names ++ more) ≤ max_alarms → All Name more → Apart (names ++ more) → runs K (naming u k (names ++ more)) rest ≡ Ok last → runs K (naming u k names) (map name_field more ++ rest) ≡ Ok last
   names_taken rest last u k [] names few good apart h = ap (λ ns. runs K (naming u k ns) rest) (sym (append-nil names)) ∙ h
   names_taken rest last u k (v ∷ more) names few good apart h =
       let e = append_assoc names (v ∷ []) more in
       cons_run K three (naming u k names) (naming u k (names ++ v ∷ [])) last (name_field v) (map name_field more ++ rest)
-      (name_taken u k names v good.0 (omega (arith, length-append names (v ∷ more))) (apart_here v names more apart))
-      (names_taken rest last u k more (names ++ v ∷ []) (omega (arith, ap length e)) good.1 (subst Apart (sym e) apart) (ap (λ ns. runs K (naming u k ns) rest) e ∙ h))
+      (name_taken u k names v (All-head Name v more good) (omega (arith, length-append names (v ∷ more))) (apart_here v names more apart))
+      (names_taken rest last u k more (names ++ v ∷ []) (omega (arith, ap length e)) (All-tail Name v more good) (subst Apart (sym e) apart) (ap (λ ns. runs K (naming u k ns) rest) e ∙ h))
 
   fits_own : (n : ℕ) → n ≡ K.size → fits K K.tag n ≡ true
   fits_own n h = fits_value K three K.tag n refl ∙ eq-eqb n K.size h

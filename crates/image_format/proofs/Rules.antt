@@ -1,11 +1,12 @@
 -- The rules on names, by tests and in words. Assumes nothing.
-use Rattle.std.proofs.Common.{◌≡◌, ℕ, zero, suc, ◌<◌, Bool, true, false, cond, not, ◌&&◌, leb, List, [], ◌∷◌, ◌++◌, length, get_or, Ok, Err, Result, sym, refl, ◌∙◌, ⊎_elim, arith}
+use Rattle.std.proofs.Common.{◌≡◌, ℕ, zero, suc, ◌<◌, Bool, true, false, cond, not, ◌&&◌, leb, List, [], ◌∷◌, ◌++◌, length, get_or, All, Ok, Err, Result, sym, refl, ◌∙◌, ⊎_elim, arith}
 use Rattle.std.specs.Str.{bytes_eq}
-use Rattle.std.specs.List.{AllByRecursion}
+use Rattle.std.proofs.lemmas.List.Sums.{AllPass-from_list_all, list_all-from_AllPass}
 use Rattle.std.proofs.lemmas.List.{length_push, get_or_push, get_or_append_left, get_or_at, length-append}
 use Rattle.std.proofs.lemmas.Slice.Eq.{bytes_eq-Decides}
+use Rattle.std.proofs.lemmas.Bool.Decides.{nat_tests}
 use Rattle.std.proofs.lemmas.Bool.{and_parts, and_from, or_parts, or_from, both_ways, cases_Bool, cases_lt, leb-true, le-leb}
-use Rattle.image_format.specs.Names.{printable, given}
+use Rattle.image_format.specs.Names.{printable, given, name_byte}
 use Rattle.image_format.specs.Names.{Apart, Printable}
 
 -- a check that is passed
@@ -22,15 +23,11 @@ pub pass_not : {A : Type 0} (b : Bool) (x y : A) → b ≡ true → cond (not b)
 pass_not true x y h = refl
 pass_not false x y h = let z : ◌≡◌ {A = ℕ} 0 1 = cc in absurd (omega arith)
 
-pub all_printable : (v : List ℕ) → printable v ≡ true → AllByRecursion Printable v
-all_printable [] h = tt
-all_printable (b ∷ bs) h =
-    let p = and_parts (leb 32 b && leb b 126) (printable bs) h in let q = and_parts (leb 32 b) (leb b 126) p.0 in
-    ((leb-true _ _ q.0, leb-true _ _ q.1), all_printable bs p.1)
+pub all_printable : (v : List ℕ) → printable v ≡ true → All Printable v
+all_printable v h = λ k d l. let p = AllPass-from_list_all name_byte v h k d l in grind (arith, nat_tests)
 
-pub printable_all : (v : List ℕ) → AllByRecursion Printable v → printable v ≡ true
-printable_all [] h = refl
-printable_all (b ∷ bs) h = and_from _ _ (and_from _ _ (le-leb _ _ h.0.0) (le-leb _ _ h.0.1)) (printable_all bs h.1)
+pub printable_all : (v : List ℕ) → All Printable v → printable v ≡ true
+printable_all v h = list_all-from_AllPass name_byte v (λ k d l. let p = h k d l in grind (arith, nat_tests))
 
 pub not_given : (v : List ℕ) (names : List (List ℕ)) → given v names ≡ false → (i : ℕ) → i < length names → get_or names i [] ≡ v → ⊥
 not_given v [] g i l e = omega arith

@@ -1,5 +1,5 @@
 -- Causes to refuse a field, and which of them wins.
-use Rattle.std.specs.Prelude.{Bool, cond, List, [], ◌∷◌, Err, Result}
+use Rattle.std.specs.Prelude.{Bool, if◌then◌else◌, List, [], ◌∷◌, Err, Result}
 
 -- a fault, and whether it applies
 pub record Cause (F : Type 0) : Type 0 where
@@ -14,4 +14,4 @@ f if t = record { fault = f; applies = t }
 -- the causes in turn, and where none of them applies the answer r
 abbrev pub past : {X F : Type 0} → List (Cause F) → Result X F → Result X F
 past [] r = r
-past (c ∷ cs) r = cond c.applies (Err c.fault) (past cs r)
+past (c ∷ cs) r = if c.applies then Err c.fault else past cs r
