@@ -1,5 +1,6 @@
 -- All alarms on level 0, and what is told of a loaded image. Assumes nothing.
-use Rattle.std.proofs.Common.{◌≡◌, ℕ, zero, suc, ◌≤◌, true, List, length, get_or, replicate, is_ok, Some, None, Ok, Err, Decides, Option, Result, sym, refl, ap, ◌∙◌, arith}
+use Rattle.std.proofs.Common.{◌≡◌, ℕ, zero, suc, ◌≤◌, true, List, length, get_or, replicate, is_ok, Some, None, Ok, Err, ◌↔◌, Option, Result, sym, refl, ap, ◌∙◌, arith}
+use Rattle.std.specs.Prelude.{IsOk}
 use Rattle.std.specs.Result.{result_unwrap_or}
 use Rattle.sheet.specs.Books.{Book, max_alarms}
 use Rattle.sheet.specs.Causes.{checked, first_cause}
@@ -25,7 +26,7 @@ passed (Ok y) None x ok e = cc
 passed (Ok y) (Some f) x ok e = let z : ◌≡◌ {A = ℕ} 0 1 = cc in absurd (omega arith)
 passed (Err f) o x ok e = let z : ◌≡◌ {A = ℕ} 0 1 = cc in absurd (omega arith)
 
-pub top_priced : (b : Book) (r : Result ℕ Fault) → 1 ≤ b.k → b.n ≤ max_alarms → r ≡ priced b plain all_on_top → Decides (is_ok r) (FitsTop b) → result_unwrap_or r 0 ≡ top_cost b
+pub top_priced : (b : Book) (r : Result ℕ Fault) → 1 ≤ b.k → b.n ≤ max_alarms → r ≡ priced b plain all_on_top → (IsOk r ↔ FitsTop b) → result_unwrap_or r 0 ≡ top_cost b
 top_priced b r some few e placed =
     let ok = placed.1 (few, λ v l. omega (arith, zero_at max_alarms v)) in
     passed r (first_cause (price_causes b all_on_top)) (cost b plain (listed all_on_top)) ok e ∙ ap (cost b plain) (λ i v. zero_at max_alarms v i)
