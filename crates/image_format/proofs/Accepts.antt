@@ -25,7 +25,7 @@ module _ {S : Type 0} (K : Kind S) (three : 3 ≤ K.tag) where
     where
       go : (o : Result (State S) ImageCause) → step K s f.tag f.value ≡ o → ◌≡◌ {A = Result (State S) ImageCause} (elim o [ Ok u ↦ runs K u fs | Err c ↦ Err c ]) (Ok last) → (s' : State S) × (step K s f.tag f.value ≡ Ok s') × (runs K s' fs ≡ Ok last)
       go (Ok u) e g = (u, e, g)
-      go (Err c) e g = let z : ◌≡◌ {A = ℕ} 0 1 = cc in absurd (omega arith)
+      go (Err c) e g = absurd cc
 
   pub cons_run : (s s' last : State S) (f : Field) (fs : List Field) → step K s f.tag f.value ≡ Ok s' → runs K s' fs ≡ Ok last → runs K s (f ∷ fs) ≡ Ok last
   cons_run s s' last f fs e h = ap (λ (o : Result (State S) ImageCause). elim o [ Ok u ↦ runs K u fs | Err c ↦ Err c ]) e ∙ h
@@ -41,7 +41,7 @@ module _ {S : Type 0} (K : Kind S) (three : 3 ≤ K.tag) where
   step_taken s t v o f = pass_not (in_order K s t) _ _ o ∙ pass_not (fits K t (length v)) _ _ f
 
   noted_left : (m : ℕ) (o : Result (S × Book) Fault) (s : State S) → noted m o ≡ Ok s → (p : S × Book) × (o ≡ Ok p) × (noting p.0 p.1 (m + 1) ≡ s)
-  noted_left m (Err c) s h = let z : ◌≡◌ {A = ℕ} 0 1 = cc in absurd (omega arith)
+  noted_left m (Err c) s h = absurd cc
   noted_left m (Ok p) s h = (p, refl, same_ok K h)
 
   pub fits_value : (t n : ℕ) → t ≡ K.tag → fits K t n ≡ eqb n K.size
@@ -136,7 +136,7 @@ module _ {S : Type 0} (K : Kind S) (three : 3 ≤ K.tag) where
       from_values u k names [] x good g.0 (record { values = []; same = refl; fed = ap (λ (z : Described). z.book) y; count = omega (arith, ap (λ (z : Described). z.fields) y) })
     where
       named_end : (u : S) (k : ℕ) (names : List (List ℕ)) (q : ℕ) (x : Described) → finished (naming u k names) q ≡ Ok x → (1 ≤ length names) × (describes (opened (length names) k) 0 ≡ Ok x)
-      named_end u k [] q x h = let z : ◌≡◌ {A = ℕ} 0 1 = cc in absurd (omega arith)
+      named_end u k [] q x h = absurd cc
       named_end u k (n ∷ ns) q x h = (omega arith, sym (cond-true (ltb 0 (length (n ∷ ns))) _ _ (grind (arith, nat_tests))) ∙ h)
   names_run (f ∷ fs) u k names last q x good h e =
       let r = run_cons (naming u k names) last f fs h in
@@ -174,7 +174,7 @@ module _ {S : Type 0} (K : Kind S) (three : 3 ≤ K.tag) where
       (ap (λ t. record { tag = t; value = v }) one ∙ ap (λ w. record { tag = 1; value = w }) (single v n), b.0, b.1, same_ok K l.1)
 
   pub shaped : (u : S) (fs : List Field) (last : State S) (q : ℕ) (x : Described) → runs K (start u) fs ≡ Ok last → finished last q ≡ Ok x → Shaped K u fs x
-  shaped u [] last q x h e = let y : finished (start u) q ≡ Ok x = ap (λ s. finished s q) (same_ok K h) ∙ e in let z : ◌≡◌ {A = ℕ} 0 1 = cc in absurd (omega arith)
+  shaped u [] last q x h e = let y : finished (start u) q ≡ Ok x = ap (λ s. finished s q) (same_ok K h) ∙ e in absurd cc
   shaped u (f ∷ fs) last q x h e =
       let r = run_cons (start u) last f fs h in
       let l = limit_step u f r.0 r.1 in

@@ -26,22 +26,33 @@ items_skip zero bs = refl
 items_skip (suc k) [] = refl
 items_skip (suc k) (b ∷ bs) = items_skip k bs
 
+-- what begins at a byte is a whole field or cut short
+pub by_item : {P : Type 0} (i : Item) → ((t : ℕ) (v : List ℕ) → i ≡ whole t v → P) → (i ≡ short → P) → P
+by_item (whole t v) all cut = all t v refl
+by_item short all cut = cut refl
+
 front : (bs : List ℕ) (i : Item) → List Item
 front bs i = elim i [ whole t v ↦ whole t v ∷ items (2 + length v) bs | short ↦ short ∷ [] ]
 
+pub items_first : (b : ℕ) (bs : List ℕ) (t : ℕ) (v : List ℕ) → item (b ∷ bs) ≡ whole t v → items 0 (b ∷ bs) ≡ whole t v ∷ items (2 + length v) bs
+unfolding front
+items_first b bs t v e = ap (front bs) e
+
+pub items_cut : (b : ℕ) (bs : List ℕ) → item (b ∷ bs) ≡ short → items 0 (b ∷ bs) ≡ short ∷ []
+unfolding front
+items_cut b bs e = ap (front bs) e
+
 -- the fields from a place on, by the one that begins there
 pub items_short : (image : List ℕ) (at : ℕ) → at < length image → short ≡ item (drop at image) → items 0 (drop at image) ≡ short ∷ []
-unfolding front
 items_short image at l e =
     let d = drop_more image at 0 l in
-    ap (items 0) d ∙ ap (front (drop (at + 1) image)) (ap item (sym d) ∙ sym e)
+    ap (items 0) d ∙ items_cut (get_or image at 0) (drop (at + 1) image) (ap item (sym d) ∙ sym e)
 
 pub items_whole : (image : List ℕ) (at t : ℕ) (v : List ℕ) → at < length image → whole t v ≡ item (drop at image) → items 0 (drop at image) ≡ whole t v ∷ items 0 (drop (at + (3 + length v)) image)
-unfolding front
 items_whole image at t v l e =
     let d = drop_more image at 0 l in
     let n : at + 1 + (2 + length v) ≡ at + (3 + length v) = omega arith in
-    ap (items 0) d ∙ ap (front (drop (at + 1) image)) (ap item (sym d) ∙ sym e)
+    ap (items 0) d ∙ items_first (get_or image at 0) (drop (at + 1) image) t v (ap item (sym d) ∙ sym e)
     ∙ ap (λ is. whole t v ∷ is) (items_skip (2 + length v) (drop (at + 1) image) ∙ ap (items 0) (drop-drop (2 + length v) (at + 1) image) ∙ ap (λ k. items 0 (drop k image)) n)
 
 pub item_fits : (t : ℕ) (v bs : List ℕ) → whole t v ≡ item bs → 3 + length v ≤ length bs
@@ -53,5 +64,5 @@ item_fits t v bs e =
     omega (arith, leb-true _ _ h, length-drop 3 bs))
     (λ h.
     let w : whole t v ≡ short = e ∙ cond-false (leb (3 + size bs) (length bs)) _ _ h in
-    let z : ◌≡◌ {A = ℕ} 0 1 = cc in omega arith)
+    cc)
     (cases_Bool (leb (3 + size bs) (length bs)))

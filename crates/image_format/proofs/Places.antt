@@ -22,8 +22,8 @@ module _ {S : Type 0} (K : Kind S) where
   end_refused (naming u k (n ∷ ns)) p f h =
       let e = cond-true (ltb 0 (length (n ∷ ns))) (describes (opened (length (n ∷ ns)) k) 0) (refused_at NoName p) (grind (arith, nat_tests)) in
       let w : describes (opened (length (n ∷ ns)) k) 0 ≡ Err f = sym e ∙ h in
-      let z : ◌≡◌ {A = ℕ} 0 1 = cc in absurd (omega arith)
-  end_refused (noting u b m) p f h = let z : ◌≡◌ {A = ℕ} 0 1 = cc in absurd (omega arith)
+      absurd cc
+  end_refused (noting u b m) p f h = absurd cc
 
   -- no refusal stands before the place where reading goes on
   pub not_before : (is : List Item) (s : State S) (p : ℕ) (f : ImageFault) → read_on K s p is ≡ Err f → p ≤ f.place

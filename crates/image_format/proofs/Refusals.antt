@@ -83,12 +83,12 @@ said_err fs s g c t e = sym (step_said fs s g t) ∙ ap plainly e
 
 -- and the answer, told without its value
 plainly_err : {X : Type 0} (r : Result X ImageCause) (c : ImageCause) → plainly r ≡ Err c → r ≡ Err c
-plainly_err (Ok x) c e = let z : ◌≡◌ {A = ℕ} 0 1 = cc in absurd (omega arith)
+plainly_err (Ok x) c e = absurd cc
 plainly_err (Err d) c e = ap Err (same_err e)
 
 plainly_ok : {X : Type 0} (r : Result X ImageCause) → plainly r ≡ Ok tt → (x : X) × (r ≡ Ok x)
 plainly_ok (Ok x) e = (x, refl)
-plainly_ok (Err d) e = let z : ◌≡◌ {A = ℕ} 0 1 = cc in absurd (omega arith)
+plainly_ok (Err d) e = absurd cc
 
 module _ (g : Field) (rest : List ℕ) (c : ImageCause) where
   -- what is read from the fields on, and behind them from g on

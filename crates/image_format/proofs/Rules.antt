@@ -9,19 +9,21 @@ use Rattle.std.proofs.lemmas.Bool.{and_parts, and_from, or_parts, or_from, both_
 use Rattle.image_format.specs.Names.{printable, given, name_byte}
 use Rattle.image_format.specs.Names.{Apart, Printable}
 
+-- an answer is a value or a fault
+pub by_answer : {A E P : Type 0} (r : Result A E) → ((x : A) → r ≡ Ok x → P) → ((c : E) → r ≡ Err c → P) → P
+by_answer (Ok x) yes_ no_ = yes_ x refl
+by_answer (Err c) yes_ no_ = no_ c refl
+
 -- a check that is passed
 pub guard : {A E : Type 0} (b : Bool) (o : Result A E) (c : E) (x : A) → cond b (Err c) o ≡ Ok x → (b ≡ false) × (o ≡ Ok x)
-guard true o c x h = let z : ◌≡◌ {A = ℕ} 0 1 = cc in absurd (omega arith)
-guard false o c x h = (refl, h)
+guard b o c x h = grind arith
 
 pub guard_not : {A E : Type 0} (b : Bool) (o : Result A E) (c : E) (x : A) → cond (not b) (Err c) o ≡ Ok x → (b ≡ true) × (o ≡ Ok x)
-guard_not true o c x h = (refl, h)
-guard_not false o c x h = let z : ◌≡◌ {A = ℕ} 0 1 = cc in absurd (omega arith)
+guard_not b o c x h = grind arith
 
 -- and so leaves the answer to the next
 pub pass_not : {A : Type 0} (b : Bool) (x y : A) → b ≡ true → cond (not b) x y ≡ y
-pass_not true x y h = refl
-pass_not false x y h = let z : ◌≡◌ {A = ℕ} 0 1 = cc in absurd (omega arith)
+pass_not b x y h = grind arith
 
 pub all_printable : (v : List ℕ) → printable v ≡ true → All Printable v
 all_printable v h = λ k d l. let p = AllPass-from_list_all name_byte v h k d l in grind (arith, nat_tests)

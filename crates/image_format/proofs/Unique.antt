@@ -11,8 +11,8 @@ field_of short = record { tag = 0; value = [] }
 same_fields : (fs gs : List Field) → map item_of fs ≡ map item_of gs → fs ≡ gs
 unfolding field_of
 same_fields [] [] e = refl
-same_fields [] (g ∷ gs) e = let z : ◌≡◌ {A = ℕ} 0 1 = cc in absurd (omega arith)
-same_fields (f ∷ fs) [] e = let z : ◌≡◌ {A = ℕ} 0 1 = cc in absurd (omega arith)
+same_fields [] (g ∷ gs) e = absurd cc
+same_fields (f ∷ fs) [] e = absurd cc
 same_fields (f ∷ fs) (g ∷ gs) e =
     let first : item_of f ≡ item_of g = cc in
     let rest : map item_of fs ≡ map item_of gs = cc in
@@ -32,8 +32,8 @@ same_note x y e =
 
 same_notes : (xs ys : List Note) → map note_field xs ≡ map note_field ys → xs ≡ ys
 same_notes [] [] e = refl
-same_notes [] (y ∷ ys) e = let z : ◌≡◌ {A = ℕ} 0 1 = cc in absurd (omega arith)
-same_notes (x ∷ xs) [] e = let z : ◌≡◌ {A = ℕ} 0 1 = cc in absurd (omega arith)
+same_notes [] (y ∷ ys) e = absurd cc
+same_notes (x ∷ xs) [] e = absurd cc
 same_notes (x ∷ xs) (y ∷ ys) e =
     let first : note_field x ≡ note_field y = cc in
     let rest : map note_field xs ≡ map note_field ys = cc in
@@ -46,9 +46,9 @@ apart v x e = omega (arith, ap (λ (f : Field). f.tag) e)
 -- so the names end where the first note stands
 same_names : (vs ws : List (List ℕ)) (xs ys : List Note) → map name_field vs ++ map note_field xs ≡ map name_field ws ++ map note_field ys → (vs ≡ ws) × (xs ≡ ys)
 same_names [] [] xs ys e = (refl, same_notes xs ys e)
-same_names [] (w ∷ ws) [] ys e = let z : ◌≡◌ {A = ℕ} 0 1 = cc in absurd (omega arith)
+same_names [] (w ∷ ws) [] ys e = absurd cc
 same_names [] (w ∷ ws) (x ∷ xs) ys e = let head : name_field w ≡ note_field x = cc in absurd (apart w x head)
-same_names (v ∷ vs) [] xs [] e = let z : ◌≡◌ {A = ℕ} 0 1 = cc in absurd (omega arith)
+same_names (v ∷ vs) [] xs [] e = absurd cc
 same_names (v ∷ vs) [] xs (y ∷ ys) e = let head : name_field v ≡ note_field y = cc in absurd (apart v y head)
 same_names (v ∷ vs) (w ∷ ws) xs ys e =
     let head : name_field v ≡ name_field w = cc in

@@ -6,7 +6,8 @@ use Rattle.image_format.specs.declared.fault.ImageCause.{ImageCause}
 use Rattle.image_format.specs.declared.fault.ImageFault.{ImageFault}
 use Rattle.image_format.specs.Fields.{Field, Bytes, bytes_of, encoding, Item, whole, short, item, items, value_of}
 use Rattle.image_format.specs.Images.{Kind, State, Described, step, refused_at, finished, read_on}
-use Rattle.image_format.proofs.Items.{item_fits, items_skip}
+use Rattle.image_format.proofs.Items.{by_item, item_fits, items_cut, items_first, items_skip}
+use Rattle.image_format.proofs.Rules.{by_answer}
 
 abbrev pub item_of : Field → Item
 item_of f = whole f.tag f.value
@@ -45,7 +46,7 @@ item_bytes t v (a ∷ h ∷ l ∷ bs) b e =
     cc)
     (λ y.
     let w : whole t v ≡ short = e ∙ cond-false (leb (3 + (h * 256 + l)) (length (a ∷ h ∷ l ∷ bs))) _ _ y in
-    let z : ◌≡◌ {A = ℕ} 0 1 = cc in absurd (omega arith))
+    absurd cc)
     (cases_Bool (leb (3 + (h * 256 + l)) (length (a ∷ h ∷ l ∷ bs))))
 
 -- fields that stand one behind another are read as they are
@@ -73,6 +74,23 @@ module _ {S : Type 0} (K : Kind S) where
   runs s [] = Ok s
   runs s (f ∷ fs) = elim (step K s f.tag f.value) [ Ok s' ↦ runs s' fs | Err c ↦ Err c ]
 
+  -- a field that is taken, in such a run and in a reading
+  pub runs_on : (s s' : State S) (f : Field) (fs : List Field) → step K s f.tag f.value ≡ Ok s' → runs s (f ∷ fs) ≡ runs s' fs
+  runs_on s s' f fs e = ap (λ (o : Result (State S) ImageCause). elim o [ Ok u ↦ runs u fs | Err c ↦ Err c ]) e
+
+  module _ (s : State S) (p t : ℕ) (v : List ℕ) (is : List Item) where
+    answer : Result (State S) ImageCause → Result Described ImageFault
+    answer o = elim o [ Ok s' ↦ read_on K s' (p + (3 + length v)) is | Err c ↦ refused_at c p ]
+
+    pub reads_on : (s' : State S) → step K s t v ≡ Ok s' → read_on K s p (whole t v ∷ is) ≡ read_on K s' (p + (3 + length v)) is
+    unfolding answer
+    reads_on s' e = ap answer e
+
+    -- and one that is refused
+    pub refuses : (c : ImageCause) → step K s t v ≡ Err c → read_on K s p (whole t v ∷ is) ≡ refused_at c p
+    unfolding answer
+    refuses c e = ap answer e
+
   -- the bytes are fields that run through, to an end that makes x
   pub record Through (s : State S) (bs : List ℕ) (x : Described) : Type 0 where
     pub fields : List Field
@@ -82,42 +100,38 @@ module _ {S : Type 0} (K : Kind S) where
     pub place : ℕ
     pub ends : finished last place ≡ Ok x
 
-  module _ (x : Described) where
-    module _ (b : ℕ) (bs : List ℕ) (s : State S) (p : ℕ) (small : Bytes (b ∷ bs))
-        (rest : (k : ℕ) (s' : State S) (p' : ℕ) → read_on K s' p' (items k bs) ≡ Ok x → Through s' (drop k bs) x) where
-      stepped : (t : ℕ) (v : List ℕ) → whole t v ≡ item (b ∷ bs) → (o : Result (State S) ImageCause) → o ≡ step K s t v
-          → ◌≡◌ {A = Result Described ImageFault} (elim o [ Ok s' ↦ read_on K s' (p + (3 + length v)) (items (2 + length v) bs) | Err c ↦ refused_at c p ]) (Ok x) → Through s (b ∷ bs) x
-      stepped t v e (Err c) w h = let z : ◌≡◌ {A = ℕ} 0 1 = cc in absurd (omega arith)
-      stepped t v e (Ok s') w h =
-          let r = rest (2 + length v) s' (p + (3 + length v)) h in
-          let n : 3 + length v ≡ suc (2 + length v) = omega arith in
-          record {
-            fields = record { tag = t; value = v } ∷ r.fields;
-            bytes = item_bytes t v (b ∷ bs) small e ∙ ap (λ d. bytes_of (record { tag = t; value = v }) ++ d) (ap (λ k. drop k (b ∷ bs)) n ∙ r.bytes);
-            last = r.last;
-            run = ap (λ o. elim o [ Ok u ↦ runs u r.fields | Err c ↦ Err c ]) (sym w) ∙ r.run;
-            place = r.place;
-            ends = r.ends;
-          }
-
-      begun : (i : Item) → i ≡ item (b ∷ bs) → read_on K s p (elim i [ whole t v ↦ whole t v ∷ items (2 + length v) bs | short ↦ short ∷ [] ]) ≡ Ok x → Through s (b ∷ bs) x
-      begun short e h = let z : ◌≡◌ {A = ℕ} 0 1 = cc in absurd (omega arith)
-      begun (whole t v) e h = stepped t v e (step K s t v) refl h
-
-    pub through : (bs : List ℕ) (skip : ℕ) (s : State S) (p : ℕ) → Bytes bs → read_on K s p (items skip bs) ≡ Ok x → Through s (drop skip bs) x
-    through [] skip s p small h = record { fields = []; bytes = drop_all skip [] (omega arith); last = s; run = refl; place = p; ends = h }
-    through (b ∷ bs) zero s p small h = begun b bs s p small (λ k s' p' g. through bs k s' p' (λ i. small (suc i)) g) (item (b ∷ bs)) refl h
-    through (b ∷ bs) (suc k) s p small h = through bs k s p (λ i. small (suc i)) h
+  pub through : (x : Described) (bs : List ℕ) (skip : ℕ) (s : State S) (p : ℕ) → Bytes bs → read_on K s p (items skip bs) ≡ Ok x → Through s (drop skip bs) x
+  through x [] skip s p small h = record { fields = []; bytes = drop_all skip [] (omega arith); last = s; run = refl; place = p; ends = h }
+  through x (b ∷ bs) (suc k) s p small h = through x bs k s p (λ i. small (suc i)) h
+  through x (b ∷ bs) zero s p small h =
+      by_item (item (b ∷ bs))
+      (λ t v e.
+      let is = items (2 + length v) bs in
+      let first = sym (ap (read_on K s p) (items_first b bs t v e)) ∙ h in
+      by_answer (step K s t v)
+      (λ s' w.
+      let r = through x bs (2 + length v) s' (p + (3 + length v)) (λ i. small (suc i)) (sym (reads_on s p t v is s' w) ∙ first) in
+      let f : Field = record { tag = t; value = v } in
+      let n : 3 + length v ≡ suc (2 + length v) = omega arith in
+      record {
+        fields = f ∷ r.fields;
+        bytes = item_bytes t v (b ∷ bs) small (sym e) ∙ ap (λ d. bytes_of f ++ d) (ap (λ k. drop k (b ∷ bs)) n ∙ r.bytes);
+        last = r.last;
+        run = runs_on s s' f r.fields w ∙ r.run;
+        place = r.place;
+        ends = r.ends;
+      })
+      (λ c w. let no = sym (refuses s p t v is c w) ∙ first in absurd cc))
+      (λ e. let no = sym (ap (read_on K s p) (items_cut b bs e)) ∙ h in absurd cc)
 
   pub same_ok : {s u : State S} → ◌≡◌ {A = Result (State S) ImageCause} (Ok s) (Ok u) → s ≡ u
   same_ok e = cc
 
-  module _ (last : State S) (fs : List Field) (rest : (s : State S) (p : ℕ) → runs s fs ≡ Ok last → (q : ℕ) × (read_on K s p (map item_of fs) ≡ finished last q)) where
-    ran : (v : List ℕ) (p : ℕ) (o : Result (State S) ImageCause) → ◌≡◌ {A = Result (State S) ImageCause} (elim o [ Ok u ↦ runs u fs | Err c ↦ Err c ]) (Ok last)
-        → (q : ℕ) × ◌≡◌ {A = Result Described ImageFault} (elim o [ Ok s' ↦ read_on K s' (p + (3 + length v)) (map item_of fs) | Err c ↦ refused_at c p ]) (finished last q)
-    ran v p (Err c) h = let z : ◌≡◌ {A = ℕ} 0 1 = cc in absurd (omega arith)
-    ran v p (Ok s') h = rest s' (p + (3 + length v)) h
-
   pub read_run : (last : State S) (fs : List Field) (s : State S) (p : ℕ) → runs s fs ≡ Ok last → (q : ℕ) × (read_on K s p (map item_of fs) ≡ finished last q)
   read_run last [] s p h = (p, ap (λ u. finished u p) (same_ok h))
-  read_run last (f ∷ fs) s p h = ran last fs (λ s' p' g. read_run last fs s' p' g) f.value p (step K s f.tag f.value) h
+  read_run last (f ∷ fs) s p h =
+      by_answer (step K s f.tag f.value)
+      (λ s' w.
+      let r = read_run last fs s' (p + (3 + length f.value)) (sym (runs_on s s' f fs w) ∙ h) in
+      (r.0, reads_on s p f.tag f.value (map item_of fs) s' w ∙ r.1))
+      (λ c w. let no = sym (ap (λ (o : Result (State S) ImageCause). elim o [ Ok u ↦ runs u fs | Err c ↦ Err c ]) w) ∙ h in absurd cc)

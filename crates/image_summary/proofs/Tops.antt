@@ -23,8 +23,8 @@ zero_at (suc n) (suc v) = zero_at n v
 -- the value of a check that passed
 passed : (r : Result ℕ Fault) (o : Option Fault) (x : ℕ) → is_ok r ≡ true → r ≡ checked o x → result_unwrap_or r 0 ≡ x
 passed (Ok y) None x ok e = cc
-passed (Ok y) (Some f) x ok e = let z : ◌≡◌ {A = ℕ} 0 1 = cc in absurd (omega arith)
-passed (Err f) o x ok e = let z : ◌≡◌ {A = ℕ} 0 1 = cc in absurd (omega arith)
+passed (Ok y) (Some f) x ok e = absurd cc
+passed (Err f) o x ok e = absurd cc
 
 pub top_priced : (b : Book) (r : Result ℕ Fault) → 1 ≤ b.k → b.n ≤ max_alarms → r ≡ priced b plain all_on_top → (IsOk r ↔ FitsTop b) → result_unwrap_or r 0 ≡ top_cost b
 top_priced b r some few e placed =
@@ -35,7 +35,7 @@ top_priced b r some few e placed =
 pub sums_up : (image : List ℕ) (b b' : Book) (r : Result ℕ ImageFault) → Loads image b r b' → (m : ℕ) → r ≡ Ok m
     → SumsUp image (Ok (record { alarms = b'.n; rows = length b'.rows; notes = m; cost = top_cost b' }))
 sums_up image b b' r l m e = record {
-  refused = λ f o. let w : ◌≡◌ {A = Result ℕ ImageFault} (Ok m) (Err f) = sym e ∙ refused_is image b b' r l f o in let z : ◌≡◌ {A = ℕ} 0 1 = cc in absurd (omega arith);
+  refused = λ f o. let w : ◌≡◌ {A = Result ℕ ImageFault} (Ok m) (Err f) = sym e ∙ refused_is image b b' r l f o in absurd cc;
   told = λ c h.
       let book = (loaded image b b' r l c h).0 in
       let same : ◌≡◌ {A = Result ℕ ImageFault} (Ok m) (Ok (length c.notes)) = sym e ∙ (loaded image b b' r l c h).1 in
