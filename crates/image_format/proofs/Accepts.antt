@@ -14,21 +14,18 @@ use Rattle.image_format.specs.Fields.{Field}
 use Rattle.image_format.specs.Names.{Name, printable, given}
 use Rattle.image_format.specs.Images.{Kind, State, start, naming, noting, Described, in_order, fits, named, noted, opened, step, by_value, describes, finished}
 use Rattle.image_format.specs.Contents.{limit_field, name_field}
-use Rattle.image_format.proofs.Rules.{guard, guard_not, pass_not, all_printable, apart_push}
+use Rattle.image_format.proofs.Rules.{by_answer, guard, guard_not, pass_not, all_printable, apart_push}
 use Rattle.image_format.proofs.Shapes.{Good, value_field, Fed, Shaped}
-use Rattle.image_format.proofs.Whole.{runs, same_ok}
+use Rattle.image_format.proofs.Whole.{runs, run_ends, runs_on, same_ok}
 
 module _ {S : Type 0} (K : Kind S) (three : 3 ≤ K.tag) where
   -- a run of at least one field
   pub run_cons : (s last : State S) (f : Field) (fs : List Field) → runs K s (f ∷ fs) ≡ Ok last → (s' : State S) × (step K s f.tag f.value ≡ Ok s') × (runs K s' fs ≡ Ok last)
-  run_cons s last f fs h = go (step K s f.tag f.value) refl h
-    where
-      go : (o : Result (State S) ImageCause) → step K s f.tag f.value ≡ o → ◌≡◌ {A = Result (State S) ImageCause} (elim o [ Ok u ↦ runs K u fs | Err c ↦ Err c ]) (Ok last) → (s' : State S) × (step K s f.tag f.value ≡ Ok s') × (runs K s' fs ≡ Ok last)
-      go (Ok u) e g = (u, e, g)
-      go (Err c) e g = absurd cc
+  run_cons s last f fs h =
+      by_answer (step K s f.tag f.value) (λ s' e. (s', e, sym (runs_on K s s' f fs e) ∙ h)) (λ c e. let no = sym (run_ends K s f fs c e) ∙ h in absurd cc)
 
   pub cons_run : (s s' last : State S) (f : Field) (fs : List Field) → step K s f.tag f.value ≡ Ok s' → runs K s' fs ≡ Ok last → runs K s (f ∷ fs) ≡ Ok last
-  cons_run s s' last f fs e h = ap (λ (o : Result (State S) ImageCause). elim o [ Ok u ↦ runs K u fs | Err c ↦ Err c ]) e ∙ h
+  cons_run s s' last f fs e h = runs_on K s s' f fs e ∙ h
 
   -- a field that is taken is in order, its length fits, and its value is taken
   pub step_parts : (s s' : State S) (t : ℕ) (v : List ℕ) → step K s t v ≡ Ok s' → (in_order K s t ≡ true) × (fits K t (length v) ≡ true) × (by_value K s t v ≡ Ok s')

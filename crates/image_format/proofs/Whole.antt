@@ -78,6 +78,9 @@ module _ {S : Type 0} (K : Kind S) where
   pub runs_on : (s s' : State S) (f : Field) (fs : List Field) → step K s f.tag f.value ≡ Ok s' → runs s (f ∷ fs) ≡ runs s' fs
   runs_on s s' f fs e = ap (λ (o : Result (State S) ImageCause). elim o [ Ok u ↦ runs u fs | Err c ↦ Err c ]) e
 
+  pub run_ends : (s : State S) (f : Field) (fs : List Field) (c : ImageCause) → step K s f.tag f.value ≡ Err c → runs s (f ∷ fs) ≡ Err c
+  run_ends s f fs c e = ap (λ (o : Result (State S) ImageCause). elim o [ Ok u ↦ runs u fs | Err d ↦ Err d ]) e
+
   module _ (s : State S) (p t : ℕ) (v : List ℕ) (is : List Item) where
     answer : Result (State S) ImageCause → Result Described ImageFault
     answer o = elim o [ Ok s' ↦ read_on K s' (p + (3 + length v)) is | Err c ↦ refused_at c p ]
@@ -134,4 +137,4 @@ module _ {S : Type 0} (K : Kind S) where
       (λ s' w.
       let r = read_run last fs s' (p + (3 + length f.value)) (sym (runs_on s s' f fs w) ∙ h) in
       (r.0, reads_on s p f.tag f.value (map item_of fs) s' w ∙ r.1))
-      (λ c w. let no = sym (ap (λ (o : Result (State S) ImageCause). elim o [ Ok u ↦ runs u fs | Err c ↦ Err c ]) w) ∙ h in absurd cc)
+      (λ c w. let no = sym (run_ends s f fs c w) ∙ h in absurd cc)
