@@ -18,7 +18,8 @@ use Rattle.image_format.proofs.Places.{cons, not_before, same_err}
 use Rattle.image_format.proofs.Reasons.{Naming, Told, book_more, book_opened, plainly, step_said, tagged_more, tagged_other}
 use Rattle.image_format.proofs.Tellings.{next_accepted}
 use Rattle.image_format.proofs.Items.{items_short}
-use Rattle.image_format.proofs.Whole.{items_cons}
+use Rattle.image_format.proofs.Rules.{by_answer}
+use Rattle.image_format.proofs.Whole.{items_cons, reads_on, refuses}
 
 three : 3 ≤ counts.tag
 three = omega arith
@@ -98,32 +99,25 @@ module _ (g : Field) (rest : List ℕ) (c : ImageCause) where
   abbrev Reason : List Field → List Field → Type 0
   Reason done before = FineFrom done before × (said_to (done ++ before) g ≡ Err c)
 
-  at_last : (done : List Field) (s : State Counts) (p : ℕ) → Told done s → from [] s p ≡ refused_at c (p + 0) → Reason done []
-  at_last done s p t h = go (step counts s g.tag g.value) refl (sym (ap (read_on counts s p) (items_cons g rest)) ∙ h)
-    where
-      go : (o : Result (State Counts) ImageCause) → step counts s g.tag g.value ≡ o
-          → ◌≡◌ {A = Result Described ImageFault} (elim o [ Ok s' ↦ read_on counts s' (p + (3 + length g.value)) (items 0 rest) | Err d ↦ refused_at d p ]) (refused_at c (p + 0)) → Reason done []
-      go (Err d) e w =
-          let same : d ≡ c = ap (λ (f : ImageFault). f.cause) (same_err w) in
-          (tt, ap (λ fs. said_to fs g) (append-nil done) ∙ said_err done s g d t e ∙ ap Err same)
-      go (Ok s') e w = absurd (omega (arith, not_before counts (items 0 rest) s' (p + (3 + length g.value)) (record { cause = c; place = p + 0 }) w))
-
   reason : (before done : List Field) (s : State Counts) (p : ℕ) → Told done s → from before s p ≡ refused_at c (p + length (encoding before)) → Reason done before
-  reason [] done s p t h = at_last done s p t h
+  reason [] done s p t h =
+      let is = items 0 rest in
+      let first = sym (ap (read_on counts s p) (items_cons g rest)) ∙ h in
+      by_answer (step counts s g.tag g.value)
+      (λ s' e. absurd (omega (arith, not_before counts is s' (p + (3 + length g.value)) (record { cause = c; place = p + 0 }) (sym (reads_on counts s p g.tag g.value is s' e) ∙ first))))
+      (λ d e.
+      let same : d ≡ c = ap (λ (f : ImageFault). f.cause) (same_err (sym (refuses counts s p g.tag g.value is d e) ∙ first)) in
+      (tt, ap (λ fs. said_to fs g) (append-nil done) ∙ said_err done s g d t e ∙ ap Err same))
   reason (f ∷ before) done s p t h =
-      go (λ s' e. reason before (done ++ f ∷ []) s' (p + (3 + length f.value)) (told_next done s s' f t e)) (step counts s f.tag f.value) refl (sym (cons counts f before (bytes_of g ++ rest) s p) ∙ h)
-    where
-      go : ((s' : State Counts) → step counts s f.tag f.value ≡ Ok s' → from before s' (p + (3 + length f.value)) ≡ refused_at c (p + (3 + length f.value) + length (encoding before)) → Reason (done ++ f ∷ []) before)
-          → (o : Result (State Counts) ImageCause) → step counts s f.tag f.value ≡ o
-          → ◌≡◌ {A = Result Described ImageFault} (elim o [ Ok s' ↦ from before s' (p + (3 + length f.value)) | Err d ↦ refused_at d p ]) (refused_at c (p + length (encoding (f ∷ before)))) → Reason done (f ∷ before)
-      go next (Err d) e w =
-          let l = length-append (bytes_of f) (encoding before) in
-          absurd (omega (arith, ap (λ (x : ImageFault). x.place) (same_err w)))
-      go next (Ok s') e w =
-          let l = length-append (bytes_of f) (encoding before) in
-          let n : p + length (encoding (f ∷ before)) ≡ p + (3 + length f.value) + length (encoding before) = omega arith in
-          let r = next s' e (w ∙ ap (refused_at c) n) in
-          ((said_ok done s s' f t e, r.0), ap (λ fs. said_to fs g) (sym (append_assoc done (f ∷ []) before)) ∙ r.1)
+      let is = items 0 (encoding before ++ (bytes_of g ++ rest)) in
+      let first = sym (cons counts f before (bytes_of g ++ rest) s p) ∙ h in
+      let l = length-append (bytes_of f) (encoding before) in
+      by_answer (step counts s f.tag f.value)
+      (λ s' e.
+      let n : p + length (encoding (f ∷ before)) ≡ p + (3 + length f.value) + length (encoding before) = omega arith in
+      let r = reason before (done ++ f ∷ []) s' (p + (3 + length f.value)) (told_next done s s' f t e) (sym (reads_on counts s p f.tag f.value is s' e) ∙ first ∙ ap (refused_at c) n) in
+      ((said_ok done s s' f t e, r.0), ap (λ fs. said_to fs g) (sym (append_assoc done (f ∷ []) before)) ∙ r.1))
+      (λ d e. absurd (omega (arith, ap (λ (x : ImageFault). x.place) (same_err (sym (refuses counts s p f.tag f.value is d e) ∙ first)))))
 
 -- fields in which nothing is wrong are read to their end
 through_fine : (bs : List ℕ) (before done : List Field) (s : State Counts) (p : ℕ) → Told done s → FineFrom done before
@@ -139,7 +133,7 @@ through_fine bs (f ∷ before) done s p t r =
       w.0,
       subst (λ fs. Told fs w.0) (append_assoc done (f ∷ []) before) w.1,
       cons counts f before bs s p
-          ∙ ap (λ (o : Result (State Counts) ImageCause). elim o [ Ok s' ↦ read_on counts s' (p + (3 + length f.value)) (items 0 (encoding before ++ bs)) | Err d ↦ refused_at d p ]) x.1
+          ∙ reads_on counts s p f.tag f.value (items 0 (encoding before ++ bs)) x.0 x.1
           ∙ w.2
           ∙ ap (λ q. read_on counts w.0 q (items 0 bs)) n,
     )
@@ -171,7 +165,7 @@ module _ (before : List Field) (g : Field) (rest : List ℕ) (c : ImageCause) (f
       let s = w.0 in let p = length (encoding before) in
       w.2
       ∙ ap (read_on counts s p) (items_cons g rest)
-      ∙ ap (λ (o : Result (State Counts) ImageCause). elim o [ Ok s' ↦ read_on counts s' (p + (3 + length g.value)) (items 0 rest) | Err d ↦ refused_at d p ]) (plainly_err (step counts s g.tag g.value) c (step_said before s g w.1 ∙ said))
+      ∙ refuses counts s p g.tag g.value (items 0 rest) c (plainly_err (step counts s g.tag g.value) c (step_said before s g w.1 ∙ said))
 
 -- an end without a name
 nameless : (fs : List Field) (s : State Counts) (p : ℕ) → Told fs s → tagged 2 fs ≡ [] → finished s p ≡ refused_at NoName p
