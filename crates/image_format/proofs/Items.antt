@@ -1,8 +1,9 @@
 -- The field at a place of an image, by the image's own bytes. Assumes nothing.
-use Rattle.std.proofs.Common.{◌≡◌, ℕ, zero, suc, ◌+◌, ◌*◌, ◌<◌, ◌≤◌, true, leb, List, [], ◌∷◌, length, get_or, take, drop, sym, refl, ap, ◌∙◌, ⊎_elim, add-zero, arith}
-use Rattle.std.proofs.lemmas.List.{get_or-drop, length-drop, drop-drop, drop_more, length-take}
-use Rattle.std.proofs.lemmas.Bool.{cond-true, cond-false, le-leb, lt-leb, leb-true, cases_Bool}
-use Rattle.image_format.specs.Fields.{Item, whole, short, size, item, items, value_of}
+use Rattle.std.proofs.Common.{◌≡◌, ℕ, zero, suc, ◌+◌, ◌*◌, ◌<◌, ◌≤◌, List, [], ◌∷◌, length, get_or, take, drop, sym, refl, ap, ◌∙◌, arith, rules}
+use Rattle.std.proofs.lemmas.List.{get_or-drop, drop-drop, drop_more}
+use Rattle.std.proofs.lemmas.Grind.{common_steps}
+use Rattle.std.proofs.lemmas.Bool.Decides.{nat_tests}
+use Rattle.image_format.specs.Fields.{Item, whole, short, size, item, items}
 
 abbrev pub size_at : List ℕ → ℕ → ℕ
 size_at image at = get_or image (at + 1) 0 * 256 + get_or image (at + 2) 0
@@ -11,15 +12,10 @@ pub size_drop : (image : List ℕ) (at : ℕ) → size (drop at image) ≡ size_
 size_drop image at = simp get_or-drop
 
 pub item_short : (image : List ℕ) (at : ℕ) → length image < at + 3 + size_at image at → short ≡ item (drop at image)
-item_short image at h =
-    let e = size_drop image at in let d = length-drop at image in
-    sym (cond-false (leb (3 + size (drop at image)) (length (drop at image))) _ _ (lt-leb _ _ (omega arith)))
+item_short image at h = grind (arith, nat_tests, common_steps)
 
 pub item_whole : (image : List ℕ) (at : ℕ) → at + 3 + size_at image at ≤ length image → whole (get_or image at 0) (take (size_at image at) (drop (at + 3) image)) ≡ item (drop at image)
-item_whole image at h =
-    let e = size_drop image at in let d = length-drop at image in
-    let r : leb (3 + size (drop at image)) (length (drop at image)) ≡ true = le-leb _ _ (omega arith) in
-    sym (cond-true (leb (3 + size (drop at image)) (length (drop at image))) (whole (get_or (drop at image) 0 0) (take (size (drop at image)) (drop 3 (drop at image)))) short r ∙ simp (get_or-drop, drop-drop, add-zero))
+item_whole image at h = grind (arith, nat_tests, common_steps)
 
 pub items_skip : (k : ℕ) (bs : List ℕ) → items k bs ≡ items 0 (drop k bs)
 items_skip zero bs = refl
@@ -44,9 +40,7 @@ items_cut b bs e = ap (front bs) e
 
 -- the fields from a place on, by the one that begins there
 pub items_short : (image : List ℕ) (at : ℕ) → at < length image → short ≡ item (drop at image) → items 0 (drop at image) ≡ short ∷ []
-items_short image at l e =
-    let d = drop_more image at 0 l in
-    ap (items 0) d ∙ items_cut (get_or image at 0) (drop (at + 1) image) (ap item (sym d) ∙ sym e)
+items_short image at l e = grind (arith, nat_tests, common_steps)
 
 pub items_whole : (image : List ℕ) (at t : ℕ) (v : List ℕ) → at < length image → whole t v ≡ item (drop at image) → items 0 (drop at image) ≡ whole t v ∷ items 0 (drop (at + (3 + length v)) image)
 items_whole image at t v l e =
@@ -56,13 +50,4 @@ items_whole image at t v l e =
     ∙ ap (λ is. whole t v ∷ is) (items_skip (2 + length v) (drop (at + 1) image) ∙ ap (items 0) (drop-drop (2 + length v) (at + 1) image) ∙ ap (λ k. items 0 (drop k image)) n)
 
 pub item_fits : (t : ℕ) (v bs : List ℕ) → whole t v ≡ item bs → 3 + length v ≤ length bs
-item_fits t v bs e =
-    ⊎_elim
-    (λ h.
-    let w : v ≡ take (size bs) (drop 3 bs) = ap value_of (e ∙ cond-true (leb (3 + size bs) (length bs)) _ _ h) in
-    let n = ap length w ∙ length-take (size bs) (drop 3 bs) in
-    omega (arith, leb-true _ _ h, length-drop 3 bs))
-    (λ h.
-    let w : whole t v ≡ short = e ∙ cond-false (leb (3 + size bs) (length bs)) _ _ h in
-    cc)
-    (cases_Bool (leb (3 + size bs) (length bs)))
+item_fits t v bs e = search rules

@@ -1,14 +1,15 @@
 -- Where a refusal stands, and that nothing behind the field at fault matters, for any kind of image. Assumes nothing.
-use Rattle.std.proofs.Common.{◌≡◌, ℕ, zero, suc, ◌+◌, ◌≤◌, ltb, ◌⊎◌, List, [], ◌∷◌, ◌++◌, length, drop, Ok, Err, Result, sym, refl, ap, ◌∙◌, subst, inl, inr, ⊎_elim, arith}
-use Rattle.std.proofs.lemmas.List.{append_assoc, drop_all, length-append}
+use Rattle.std.proofs.Common.{◌≡◌, ℕ, zero, suc, ◌+◌, ◌≤◌, ltb, ◌⊎◌, List, [], ◌∷◌, ◌++◌, length, drop, Err, Result, sym, ap, ◌∙◌, inl, inr, ⊎_elim, arith}
+use Rattle.std.proofs.lemmas.List.{append_assoc, length-append}
 use Rattle.std.proofs.lemmas.Bool.{cases_Bool, cond-true, cond-false, le-ltb, ltb-true}
 use Rattle.std.proofs.lemmas.Bool.Decides.{nat_tests}
+use Rattle.std.proofs.lemmas.Grind.{common_steps}
 use Rattle.image_format.specs.declared.fault.ImageCause.{ImageCause}
 use Rattle.image_format.specs.declared.fault.ImageCause.TheVariants.{TooLong, NoName}
 use Rattle.image_format.specs.declared.fault.ImageFault.{ImageFault}
 use Rattle.image_format.specs.Fields.{Field, Bytes, Item, whole, short, bytes_of, encoding, item, items, max_image}
-use Rattle.image_format.specs.Images.{Kind, State, start, naming, noting, Described, describes, finished, opened, read, read_on, refused_at, step}
-use Rattle.image_format.specs.Laws.{Begins, Stands, too_long, at_end, at_field}
+use Rattle.image_format.specs.Images.{Kind, State, start, read, read_on, refused_at, step}
+use Rattle.image_format.specs.Laws.{Begins, Stands, too_long}
 use Rattle.image_format.proofs.Items.{by_item, items_cut, items_first}
 use Rattle.image_format.proofs.Rules.{by_answer}
 use Rattle.image_format.proofs.Whole.{item_bytes, item_of, items_cons, reads_on, refuses}
@@ -17,20 +18,10 @@ pub same_err : {A B : Type 0} {x y : B} → ◌≡◌ {A = Result A B} (Err x) (
 same_err e = cc
 
 module _ {S : Type 0} (K : Kind S) where
-  -- an end that is refused is refused for its names
-  end_refused : (s : State S) (p : ℕ) (f : ImageFault) → finished s p ≡ Err f → f ≡ record { cause = NoName; place = p }
-  end_refused (start u) p f h = sym (same_err h)
-  end_refused (naming u k []) p f h = sym (same_err h)
-  end_refused (naming u k (n ∷ ns)) p f h =
-      let e = cond-true (ltb 0 (length (n ∷ ns))) (describes (opened (length (n ∷ ns)) k) 0) (refused_at NoName p) (grind (arith, nat_tests)) in
-      let w : describes (opened (length (n ∷ ns)) k) 0 ≡ Err f = sym e ∙ h in
-      absurd cc
-  end_refused (noting u b m) p f h = absurd cc
-
   -- no refusal stands before the place where reading goes on
   pub not_before : (is : List Item) (s : State S) (p : ℕ) (f : ImageFault) → read_on K s p is ≡ Err f → p ≤ f.place
-  not_before [] s p f h = omega (arith, ap (λ (g : ImageFault). g.place) (end_refused s p f h))
-  not_before (short ∷ is) s p f h = omega (arith, ap (λ (g : ImageFault). g.place) (same_err h))
+  not_before [] s p f h = grind (arith, nat_tests)
+  not_before (short ∷ is) s p f h = grind (arith, nat_tests)
   not_before (whole t v ∷ is) s p f h =
       by_answer (step K s t v)
       (λ s' e. omega (arith, not_before is s' (p + (3 + length v)) f (sym (reads_on K s p t v is s' e) ∙ h)))
@@ -41,7 +32,7 @@ module _ {S : Type 0} (K : Kind S) where
   From bs p f = (f ≡ record { cause = NoName; place = p + length bs }) ⊎ ((q : ℕ) × Begins bs q × (f.place ≡ p + q))
 
   here : (b : ℕ) (bs : List ℕ) (p : ℕ) (f : ImageFault) → f.place ≡ p → From (b ∷ bs) p f
-  here b bs p f e = inr (0, record { before = []; rest = b ∷ bs; bytes = refl; length_is = refl; some = omega arith }, omega arith)
+  here b bs p f e = grind (arith, nat_tests)
 
   -- behind a field that was taken
   behind : (t : ℕ) (v bs rest : List ℕ) (p : ℕ) (f : ImageFault) → bs ≡ bytes_of (record { tag = t; value = v }) ++ rest → From rest (p + (3 + length v)) f → From bs p f
@@ -66,10 +57,7 @@ module _ {S : Type 0} (K : Kind S) where
       )
 
   stands_from : (bs : List ℕ) (skip : ℕ) (s : State S) (p : ℕ) (f : ImageFault) → Bytes bs → read_on K s p (items skip bs) ≡ Err f → From (drop skip bs) p f
-  stands_from [] skip s p f small h =
-      let n : length (drop {A = ℕ} skip []) ≡ 0 = ap length (drop_all skip [] (omega arith)) in
-      let m : p ≡ p + length (drop {A = ℕ} skip []) = omega arith in
-      inl (end_refused s p f h ∙ ap (λ q. record { cause = NoName; place = q }) m)
+  stands_from [] skip s p f small h = grind (arith, nat_tests, common_steps)
   stands_from (b ∷ bs) (suc k) s p f small h = stands_from bs k s p f (λ i. small (suc i)) h
   stands_from (b ∷ bs) zero s p f small h =
       by_item (item (b ∷ bs))
@@ -86,8 +74,8 @@ module _ {S : Type 0} (K : Kind S) where
       (λ e. here b bs p f (sym (ap (λ (x : ImageFault). x.place) (same_err (sym (ap (read_on K s p) (items_cut b bs e)) ∙ h)))))
 
   at_start : (image : List ℕ) (f : ImageFault) → From image 0 f → Stands image f
-  at_start image f (inl x) = let n : 0 + length image ≡ length image = omega arith in at_end (x ∙ ap (λ q. record { cause = NoName; place = q }) n)
-  at_start image f (inr x) = let n : x.0 ≡ f.place = omega (arith, x.2) in at_field (subst (Begins image) n x.1)
+  at_start image f (inl x) = grind (arith, nat_tests)
+  at_start image f (inr x) = grind (arith, nat_tests)
 
   pub stands : (u : S) (image : List ℕ) (f : ImageFault) → Bytes image → read K u image ≡ Err f → Stands image f
   stands u image f small h =

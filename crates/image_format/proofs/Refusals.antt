@@ -1,7 +1,7 @@
 -- A refusal is for the first thing wrong, by the fields that stand before. Assumes nothing.
-use Rattle.std.proofs.Common.{◌≡◌, ℕ, ◌+◌, ◌≤◌, ltb, List, [], ◌∷◌, ◌++◌, length, get_or, Ok, Err, Result, sym, refl, ap, ◌∙◌, subst, ⊎_elim, arith}
+use Rattle.std.proofs.Common.{◌≡◌, ℕ, ◌+◌, ◌≤◌, List, [], ◌∷◌, ◌++◌, length, get_or, Ok, Err, Result, sym, refl, ap, ◌∙◌, subst, ⊎_elim, arith, rules}
 use Rattle.std.proofs.lemmas.List.{append_assoc, append-nil, length-append, length_push}
-use Rattle.std.proofs.lemmas.Bool.{cond-false, le-ltb}
+use Rattle.std.proofs.lemmas.Bool.Decides.{nat_tests}
 use Rattle.sheet.specs.Books.{Book}
 use Rattle.sheet.specs.Calls.{accepted, next, refusal}
 use Rattle.sheet.proofs.Causes.{checked_free, checked_value}
@@ -13,7 +13,7 @@ use Rattle.image_format.specs.Counts.{counts, note_in, outcome}
 use Rattle.image_format.specs.Fields.{Field, short, bytes_of, encoding, item, items, max_image}
 use Rattle.image_format.specs.Images.{State, start, naming, noting, Described, finished, opened, read_on, refused_at, step}
 use Rattle.image_format.specs.Refusals.{Fine, FineFrom, book_in, said_to, tagged}
-use Rattle.image_format.proofs.Accepts.{NextName, limit_step, naming_step, noting_step}
+use Rattle.image_format.proofs.Accepts.{NextName, naming_step, noting_step}
 use Rattle.image_format.proofs.Places.{cons, not_before, same_err}
 use Rattle.image_format.proofs.Reasons.{Naming, Told, book_more, book_opened, plainly, step_said, tagged_more, tagged_other}
 use Rattle.image_format.proofs.Tellings.{next_accepted}
@@ -53,21 +53,8 @@ told_name fs g u k names s' t n =
       none = tagged_other 3 fs g (λ x. omega (arith, n.0)) ∙ t.none;
     })
 
-told_limit : (g : Field) (u : Counts) (s' : State Counts) → step counts (start u) g.tag g.value ≡ Ok s' → Told (g ∷ []) s'
-told_limit g u s' h =
-    let l = limit_step counts three u g s' h in let k = get_or g.value 0 0 in
-    subst (Told (g ∷ [])) l.3 (subst (λ f. Naming (f ∷ []) k []) (sym l.0) (record {
-      some = omega arith;
-      limit = refl;
-      low = l.1;
-      high = l.2;
-      names_are = refl;
-      few = omega arith;
-      none = refl;
-    }))
-
 told_next : (fs : List Field) (s s' : State Counts) (g : Field) → Told fs s → step counts s g.tag g.value ≡ Ok s' → Told (fs ++ g ∷ []) s'
-told_next fs (start u) s' g e h = subst (λ x. Told (x ++ g ∷ []) s') (sym e) (told_limit g u s' h)
+told_next fs (start u) s' g e h = grind (arith, nat_tests)
 told_next fs (naming u k names) s' g t h =
     ⊎_elim {C = Told (fs ++ g ∷ []) s'}
     (λ n. told_name fs g u k names s' t n)
@@ -77,7 +64,7 @@ told_next fs (noting u b m) s' g t h = told_note fs g u b m s' t.some t.named t.
 
 -- an answer without its value, told by the answer
 said_ok : (fs : List Field) (s s' : State Counts) (g : Field) → Told fs s → step counts s g.tag g.value ≡ Ok s' → said_to fs g ≡ Ok tt
-said_ok fs s s' g t e = sym (step_said fs s g t) ∙ ap plainly e
+said_ok fs s s' g t e = search rules
 
 said_err : (fs : List Field) (s : State Counts) (g : Field) (c : ImageCause) → Told fs s → step counts s g.tag g.value ≡ Err c → said_to fs g ≡ Err c
 said_err fs s g c t e = sym (step_said fs s g t) ∙ ap plainly e
@@ -140,7 +127,7 @@ through_fine bs (f ∷ before) done s p t r =
 
 module _ (before : List Field) (bs : List ℕ) (few : length (encoding before ++ bs) ≤ max_image) where
   within : outcome (encoding before ++ bs) ≡ read_on counts (start (record {})) 0 (items 0 (encoding before ++ bs))
-  within = cond-false (ltb max_image (length (encoding before ++ bs))) _ _ (le-ltb _ _ few)
+  within = grind (arith, nat_tests)
 
   -- what comes of the image, from the bytes behind the fields on
   behind : Fine before → (s : State Counts) × Told before s × (outcome (encoding before ++ bs) ≡ read_on counts s (length (encoding before)) (items 0 bs))
@@ -170,8 +157,8 @@ module _ (before : List Field) (g : Field) (rest : List ℕ) (c : ImageCause) (f
 -- an end without a name
 nameless : (fs : List Field) (s : State Counts) (p : ℕ) → Told fs s → tagged 2 fs ≡ [] → finished s p ≡ refused_at NoName p
 nameless fs (start u) p t none = refl
-nameless fs (naming u k names) p t none = ap (λ ns. finished (naming u k ns) p) (sym t.names_are ∙ none)
-nameless fs (noting u b m) p t none = absurd (omega (arith, t.named, ap length none))
+nameless fs (naming u k names) p t none = cc
+nameless fs (noting u b m) p t none = grind (arith, nat_tests)
 
 pub nameless_refused : (before : List Field) → length (encoding before) ≤ max_image → Fine before → tagged 2 before ≡ [] → outcome (encoding before) ≡ refused_at NoName (length (encoding before))
 nameless_refused before few fine none =

@@ -1,11 +1,12 @@
 -- The rules on names, by tests and in words. Assumes nothing.
-use Rattle.std.proofs.Common.{◌≡◌, ℕ, zero, suc, ◌<◌, Bool, true, false, cond, not, ◌&&◌, leb, List, [], ◌∷◌, ◌++◌, length, get_or, All, Ok, Err, Result, sym, refl, ◌∙◌, ⊎_elim, arith}
+use Rattle.std.proofs.Common.{◌≡◌, ℕ, zero, suc, ◌<◌, Bool, true, false, cond, not, List, [], ◌∷◌, ◌++◌, length, get_or, All, Ok, Err, Result, sym, refl, ◌∙◌, ⊎_elim, arith, rules}
 use Rattle.std.specs.Str.{bytes_eq}
-use Rattle.std.proofs.lemmas.List.Sums.{AllPass-from_list_all, list_all-from_AllPass}
+use Rattle.std.proofs.lemmas.List.Sums.{list_all-from_AllPass}
 use Rattle.std.proofs.lemmas.List.{length_push, get_or_push, get_or_append_left, get_or_at, length-append}
 use Rattle.std.proofs.lemmas.Slice.Eq.{bytes_eq-Decides}
 use Rattle.std.proofs.lemmas.Bool.Decides.{nat_tests}
-use Rattle.std.proofs.lemmas.Bool.{and_parts, and_from, or_parts, or_from, both_ways, cases_Bool, cases_lt, leb-true, le-leb}
+use Rattle.std.proofs.lemmas.Bool.{or_parts, or_from, cases_Bool, cases_lt}
+use Rattle.std.proofs.lemmas.Grind.{common_steps}
 use Rattle.image_format.specs.Names.{printable, given, name_byte}
 use Rattle.image_format.specs.Names.{Apart, Printable}
 
@@ -26,14 +27,14 @@ pub pass_not : {A : Type 0} (b : Bool) (x y : A) → b ≡ true → cond (not b)
 pass_not b x y h = grind arith
 
 pub all_printable : (v : List ℕ) → printable v ≡ true → All Printable v
-all_printable v h = λ k d l. let p = AllPass-from_list_all name_byte v h k d l in grind (arith, nat_tests)
+all_printable v h = grind (arith, nat_tests, common_steps)
 
 pub printable_all : (v : List ℕ) → All Printable v → printable v ≡ true
 printable_all v h = list_all-from_AllPass name_byte v (λ k d l. let p = h k d l in grind (arith, nat_tests))
 
 pub not_given : (v : List ℕ) (names : List (List ℕ)) → given v names ≡ false → (i : ℕ) → i < length names → get_or names i [] ≡ v → ⊥
 not_given v [] g i l e = omega arith
-not_given v (n ∷ ns) g zero l e = both_ways (bytes_eq n v) (or_parts (bytes_eq n v) (given v ns) g).0 ((bytes_eq-Decides n v).1 e)
+not_given v (n ∷ ns) g zero l e = search rules
 not_given v (n ∷ ns) g (suc i) l e = not_given v ns (or_parts (bytes_eq n v) (given v ns) g).1 i (omega arith) e
 
 pub given_not : (v : List ℕ) (names : List (List ℕ)) → ((i : ℕ) → i < length names → get_or names i [] ≡ v → ⊥) → given v names ≡ false

@@ -1,5 +1,5 @@
 -- The image of counts: its values are notes, and its notes are values. Assumes nothing.
-use Rattle.std.proofs.Common.{◌≡◌, ℕ, zero, suc, ◌+◌, ◌*◌, ◌/◌, ◌%◌, ◌<◌, ◌≤◌, cond, List, [], ◌∷◌, ◌++◌, map, length, get_or, is_some, None, Ok, Option, sym, refl, ap, ◌∙◌, subst, arith}
+use Rattle.std.proofs.Common.{◌≡◌, ℕ, zero, suc, ◌+◌, ◌*◌, ◌/◌, ◌%◌, ◌≤◌, List, [], ◌∷◌, ◌++◌, map, length, get_or, None, Ok, Option, sym, refl, ap, ◌∙◌, subst, arith}
 use Rattle.std.specs.List.{AllByRecursion}
 use Rattle.std.proofs.lemmas.List.{length-map}
 use Rattle.std.proofs.lemmas.Bool.Decides.{nat_tests}
@@ -9,7 +9,7 @@ use Rattle.sheet.specs.Causes.{checked}
 use Rattle.sheet.specs.declared.fault.Fault.{Fault}
 use Rattle.sheet.proofs.Causes.{checked_free, checked_value, open_ok}
 use Rattle.image_format.specs.declared.kinds.Counts.{Counts}
-use Rattle.image_format.specs.Fields.{Field, Bytes, bytes_of, encoding}
+use Rattle.image_format.specs.Fields.{Field, Bytes, encoding}
 use Rattle.image_format.specs.Images.{Described, opened}
 use Rattle.image_format.specs.Counts.{counts, note_in, outcome}
 use Rattle.image_format.specs.Contents.{Note, AllAccepted, fields, limit_field, name_field, note_call, note_field}
@@ -41,7 +41,7 @@ behind_names [] fs h = h
 behind_names (v ∷ vs) fs h = behind_names vs fs h.1
 
 pub next_accepted : (b : Book) (c : Call) → refusal b c ≡ None → next b c ≡ accepted b c
-next_accepted b c e = ap (λ (o : Option Fault). cond (is_some o) b (accepted b c)) e
+next_accepted b c e = cc
 
 -- the note in a value
 abbrev note_of : List ℕ → Note
@@ -67,7 +67,7 @@ record NotesIn (b : Book) (values : List (List ℕ)) (b' : Book) : Type 0 where
   count : length notes ≡ length values
 
 notes_in : (values : List (List ℕ)) (s : Counts) (b b' : Book) → ByteValues (map (value_field counts) values) → Fed counts s b values b' → NotesIn b values b'
-notes_in [] s b b' small h = record { notes = []; same = refl; accepted = tt; left = sym h; count = refl }
+notes_in [] s b b' small h = grind (arith, nat_tests)
 notes_in (v ∷ vs) s b b' small h =
     let p = h.1.0 in let call = note_in v in
     let free = checked_free (refusal b call) (s, accepted b call) p h.1.1 in

@@ -1,5 +1,6 @@
 -- An image holds at most one content. Assumes nothing.
 use Rattle.std.proofs.Common.{◌≡◌, ℕ, List, [], ◌∷◌, ◌++◌, map, get_or, sym, refl, ap, ◌∙◌, arith}
+use Rattle.std.proofs.lemmas.Bool.Decides.{nat_tests}
 use Rattle.image_format.specs.Contents.{Note, Content, Holds, fields, limit_field, name_field, note_field}
 use Rattle.image_format.specs.Fields.{Field, Item, whole, short, encoding, items}
 use Rattle.image_format.proofs.Whole.{item_of, items_of}
@@ -23,12 +24,7 @@ pub same_encoding : (fs gs : List Field) → encoding fs ≡ encoding gs → fs 
 same_encoding fs gs e = same_fields fs gs (sym (items_of fs) ∙ ap (items 0) e ∙ items_of gs)
 
 same_note : (x y : Note) → note_field x ≡ note_field y → x ≡ y
-same_note x y e =
-    let byte : (i : ℕ) → get_or (note_field x).value i 0 ≡ get_or (note_field y).value i 0 = λ i. ap (λ (f : Field). get_or f.value i 0) e in
-    let n : x.count ≡ y.count = omega (arith, byte 2, byte 3) in
-    ap (λ a. record { first = a; second = x.second; count = x.count }) (byte 0)
-    ∙ ap (λ a. record { first = y.first; second = a; count = x.count }) (byte 1)
-    ∙ ap (λ a. record { first = y.first; second = y.second; count = a }) n
+same_note x y e = grind (arith, nat_tests)
 
 same_notes : (xs ys : List Note) → map note_field xs ≡ map note_field ys → xs ≡ ys
 same_notes [] [] e = refl
@@ -39,17 +35,13 @@ same_notes (x ∷ xs) (y ∷ ys) e =
     let rest : map note_field xs ≡ map note_field ys = cc in
     ap (λ a. a ∷ xs) (same_note x y first) ∙ ap (λ bs. y ∷ bs) (same_notes xs ys rest)
 
--- a name's field is no note's
-apart : (v : List ℕ) (x : Note) → name_field v ≡ note_field x → ⊥
-apart v x e = omega (arith, ap (λ (f : Field). f.tag) e)
-
 -- so the names end where the first note stands
 same_names : (vs ws : List (List ℕ)) (xs ys : List Note) → map name_field vs ++ map note_field xs ≡ map name_field ws ++ map note_field ys → (vs ≡ ws) × (xs ≡ ys)
 same_names [] [] xs ys e = (refl, same_notes xs ys e)
 same_names [] (w ∷ ws) [] ys e = absurd cc
-same_names [] (w ∷ ws) (x ∷ xs) ys e = let head : name_field w ≡ note_field x = cc in absurd (apart w x head)
+same_names [] (w ∷ ws) (x ∷ xs) ys e = grind (arith, nat_tests)
 same_names (v ∷ vs) [] xs [] e = absurd cc
-same_names (v ∷ vs) [] xs (y ∷ ys) e = let head : name_field v ≡ note_field y = cc in absurd (apart v y head)
+same_names (v ∷ vs) [] xs (y ∷ ys) e = grind (arith, nat_tests)
 same_names (v ∷ vs) (w ∷ ws) xs ys e =
     let head : name_field v ≡ name_field w = cc in
     let rest : map name_field vs ++ map note_field xs ≡ map name_field ws ++ map note_field ys = cc in

@@ -1,12 +1,14 @@
 -- An image that is read to its end is its fields, one behind another, and they run through. Assumes nothing.
 use Rattle.std.proofs.Common.{◌≡◌, ℕ, zero, suc, ◌+◌, ◌*◌, ◌/◌, ◌%◌, ◌<◌, leb, List, [], ◌∷◌, ◌++◌, map, length, take, drop, Ok, Err, Result, sym, refl, ap, ◌∙◌, ⊎_elim, arith}
-use Rattle.std.proofs.lemmas.List.{drop_all, take-append-drop, length-take, drop-drop, take_at, drop_at, length-append}
-use Rattle.std.proofs.lemmas.Bool.{cond-true, cond-false, le-leb, leb-true, cases_Bool}
+use Rattle.std.proofs.lemmas.List.{drop_all, take-append-drop, length-take, drop-drop, drop_at}
+use Rattle.std.proofs.lemmas.Bool.{cond-true, cond-false, leb-true, cases_Bool}
+use Rattle.std.proofs.lemmas.Grind.{common_steps}
+use Rattle.std.proofs.lemmas.Bool.Decides.{nat_tests}
 use Rattle.image_format.specs.declared.fault.ImageCause.{ImageCause}
 use Rattle.image_format.specs.declared.fault.ImageFault.{ImageFault}
 use Rattle.image_format.specs.Fields.{Field, Bytes, bytes_of, encoding, Item, whole, short, item, items, value_of}
 use Rattle.image_format.specs.Images.{Kind, State, Described, step, refused_at, finished, read_on}
-use Rattle.image_format.proofs.Items.{by_item, item_fits, items_cut, items_first, items_skip}
+use Rattle.image_format.proofs.Items.{by_item, items_cut, items_first, items_skip}
 use Rattle.image_format.proofs.Rules.{by_answer}
 
 abbrev pub item_of : Field → Item
@@ -18,9 +20,6 @@ high_byte h l b = omega arith
 pub low_byte : (h l : ℕ) → l < 256 → (h * 256 + l) % 256 ≡ l
 low_byte h l b = omega arith
 
-pub both_bytes : (n : ℕ) → (n / 256) * 256 + n % 256 ≡ n
-both_bytes n = omega arith
-
 tag_of : Item → ℕ
 tag_of (whole t v) = t
 tag_of short = 0
@@ -28,9 +27,9 @@ tag_of short = 0
 -- bytes that begin with a whole field are that field and the rest
 pub item_bytes : (t : ℕ) (v bs : List ℕ) → Bytes bs → whole t v ≡ item bs → bs ≡ bytes_of (record { tag = t; value = v }) ++ drop (3 + length v) bs
 unfolding tag_of
-item_bytes t v [] b e = absurd (omega (arith, item_fits t v [] e))
-item_bytes t v (a ∷ []) b e = absurd (omega (arith, item_fits t v (a ∷ []) e))
-item_bytes t v (a ∷ h ∷ []) b e = absurd (omega (arith, item_fits t v (a ∷ h ∷ []) e))
+item_bytes t v [] b e = cc
+item_bytes t v (a ∷ []) b e = cc
+item_bytes t v (a ∷ h ∷ []) b e = grind (arith, nat_tests)
 item_bytes t v (a ∷ h ∷ l ∷ bs) b e =
     ⊎_elim
     (λ y.
@@ -51,10 +50,7 @@ item_bytes t v (a ∷ h ∷ l ∷ bs) b e =
 
 -- fields that stand one behind another are read as they are
 pub whole_item : (t : ℕ) (v bs : List ℕ) → item (bytes_of (record { tag = t; value = v }) ++ bs) ≡ whole t v
-whole_item t v bs =
-    let n = both_bytes (length v) in let k = length-append v bs in
-    cond-true (leb (3 + ((length v / 256) * 256 + length v % 256)) (length (bytes_of (record { tag = t; value = v }) ++ bs))) (whole t (take ((length v / 256) * 256 + length v % 256) (v ++ bs))) short (le-leb _ _ (omega arith))
-    ∙ ap (whole t) (take_at v bs ((length v / 256) * 256 + length v % 256) (sym n))
+whole_item t v bs = grind (arith, nat_tests, common_steps)
 
 pub items_cons : (f : Field) (bs : List ℕ) → items 0 (bytes_of f ++ bs) ≡ item_of f ∷ items 0 bs
 items_cons f bs =
@@ -76,10 +72,10 @@ module _ {S : Type 0} (K : Kind S) where
 
   -- a field that is taken, in such a run and in a reading
   pub runs_on : (s s' : State S) (f : Field) (fs : List Field) → step K s f.tag f.value ≡ Ok s' → runs s (f ∷ fs) ≡ runs s' fs
-  runs_on s s' f fs e = ap (λ (o : Result (State S) ImageCause). elim o [ Ok u ↦ runs u fs | Err c ↦ Err c ]) e
+  runs_on s s' f fs e = cc
 
   pub run_ends : (s : State S) (f : Field) (fs : List Field) (c : ImageCause) → step K s f.tag f.value ≡ Err c → runs s (f ∷ fs) ≡ Err c
-  run_ends s f fs c e = ap (λ (o : Result (State S) ImageCause). elim o [ Ok u ↦ runs u fs | Err d ↦ Err d ]) e
+  run_ends s f fs c e = cc
 
   module _ (s : State S) (p t : ℕ) (v : List ℕ) (is : List Item) where
     answer : Result (State S) ImageCause → Result Described ImageFault

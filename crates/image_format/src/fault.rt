@@ -36,6 +36,15 @@ pub struct ImageFault {
     pub place: usize,
 }
 
+impl ImageCause {
+    // The fault that is this cause at a place.
+    pub fn at(self, place: usize) -> ImageFault
+        ensures { result ≡ record { cause = self; place = place } }
+    {
+        ImageFault { cause: self, place }
+    }
+}
+
 // The sheet's fault travels whole inside the image's.
 impl From<Fault> for ImageCause {
     ghost from_gives = { λ fault cause. cause ≡ Sheet fault };
@@ -46,26 +55,6 @@ impl From<Fault> for ImageCause {
         Self::Sheet(fault)
     }
 }
-
-impl ImageCause {
-    // The fault that is this cause at a place.
-    pub fn at(self, place: usize) -> ImageFault
-        ensures { result ≡ record { cause = self; place = place } }
-    {
-        ImageFault { cause: self, place }
-    }
-}
-
-// `refused 31 at 14`, for one.
-impl fmt::Display for ImageFault {
-    ghost output = { λ fault. Some (refusal_text fault) };
-
-    fn fmt<W: fmt::Write>(&self, f: &mut fmt::Formatter<W>) -> fmt::Result {
-        write!(f, "refused {} at {}", self.number(), self.place)
-    }
-}
-
-impl Error for ImageFault {}
 
 impl ImageFault {
     // The number by which the refusal is known outside.
@@ -86,3 +75,14 @@ impl ImageFault {
         }
     }
 }
+
+// `refused 31 at 14`, for one.
+impl fmt::Display for ImageFault {
+    ghost output = { λ fault. Some (refusal_text fault) };
+
+    fn fmt<W: fmt::Write>(&self, f: &mut fmt::Formatter<W>) -> fmt::Result {
+        write!(f, "refused {} at {}", self.number(), self.place)
+    }
+}
+
+impl Error for ImageFault {}
