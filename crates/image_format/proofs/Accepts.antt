@@ -1,5 +1,5 @@
 -- Fields that run through have the shape of an accepted image. Assumes nothing.
-use Rattle.std.proofs.Common.{◌≡◌, ℕ, ◌+◌, ◌<◌, ◌≤◌, true, false, eqb, ltb, ◌⊎◌, List, [], ◌∷◌, ◌++◌, map, length, get_or, Ok, Err, Result, sym, refl, ap, ◌∙◌, ⊎_elim, arith}
+use Rattle.std.proofs.Common.{◌≡◌, ℕ, ◌+◌, ◌<◌, ◌≤◌, true, false, eqb, ltb, ◌⊎◌, List, [], ◌∷◌, ◌++◌, map, length, get_or, Ok, Err, Result, sym, refl, ap, ◌∙◌, ⊎_elim, arith, rules}
 use Rattle.std.proofs.lemmas.List.{append-nil, append_assoc, length_push}
 use Rattle.std.proofs.lemmas.List.Elements.{All-nil, All-push}
 use Rattle.std.proofs.lemmas.Bool.{eqb-true, cond-true}
@@ -67,8 +67,7 @@ module _ {S : Type 0} (K : Kind S) (three : 3 ≤ K.tag) where
       }
 
   good_push : (v : List ℕ) (names : List (List ℕ)) → Good names → Name v → length names < max_alarms → given v names ≡ false → Good (names ++ v ∷ [])
-  good_push v names good name room new =
-      (omega (arith, length_push names v), All-push Name names v good.1 name, apart_push v names good.2 new)
+  good_push v names good name room new = search (rules, length_push, All-push, apart_push)
 
   abbrev pub NextName : S → ℕ → List (List ℕ) → ℕ → List ℕ → State S → Type 0
   NextName u k names t v s = (t ≡ 2) × Name v × (length names < max_alarms) × (given v names ≡ false) × (naming u k (names ++ v ∷ []) ≡ s)

@@ -1,27 +1,23 @@
 -- Fields with the shape of an accepted image run through. Assumes nothing.
-use Rattle.std.proofs.Common.{◌≡◌, ℕ, ◌+◌, ◌<◌, ◌≤◌, true, false, eqb, ltb, leb, List, [], ◌∷◌, ◌++◌, map, length, All, Ok, sym, refl, ap, ◌∙◌, subst, arith, rules}
+use Rattle.std.proofs.Common.{◌≡◌, ℕ, ◌+◌, ◌<◌, ◌≤◌, true, false, eqb, ltb, List, [], ◌∷◌, ◌++◌, map, length, All, Ok, sym, refl, ap, ◌∙◌, subst, arith, rules}
 use Rattle.std.proofs.lemmas.List.Elements.{All-head, All-tail}
 use Rattle.std.proofs.lemmas.List.{append_assoc, length-append}
-use Rattle.std.proofs.lemmas.Bool.{and_from, cond-true, cond-false, le-leb, lt-leb, lt-ltb, ne_eqb}
+use Rattle.std.proofs.lemmas.Bool.{cond-true, cond-false, lt-ltb, ne_eqb}
 use Rattle.std.proofs.lemmas.Bool.Decides.{nat_tests}
 use Rattle.sheet.specs.Books.{Book, max_alarms, max_limit}
 use Rattle.sheet.specs.Causes.{beyond}
 use Rattle.image_format.specs.Fields.{Field}
-use Rattle.image_format.specs.Names.{Name, Apart, printable, given}
+use Rattle.image_format.specs.Names.{Name, Apart, given}
 use Rattle.image_format.specs.Images.{Kind, State, start, naming, noting, Described, in_order, fits, noted, opened, step, describes, finished}
 use Rattle.image_format.specs.Contents.{limit_field, name_field}
-use Rattle.image_format.proofs.Rules.{pass_not, printable_all, apart_here}
+use Rattle.image_format.proofs.Rules.{printable_all, apart_here}
 use Rattle.image_format.proofs.Shapes.{value_field, Fed, Shaped}
 use Rattle.image_format.proofs.Whole.{runs}
 use Rattle.image_format.proofs.Accepts.{cons_run, step_taken}
 
 module _ {S : Type 0} (K : Kind S) (three : 3 ≤ K.tag) where
   name_taken : (u : S) (k : ℕ) (names : List (List ℕ)) (v : List ℕ) → Name v → length names < max_alarms → given v names ≡ false → step K (naming u k names) 2 v ≡ Ok (naming u k (names ++ v ∷ []))
-  name_taken u k names v name room new =
-      step_taken K three (naming u k names) 2 v refl (and_from _ _ (le-leb _ _ name.some) (le-leb _ _ name.few))
-      ∙ cond-false (leb max_alarms (length names)) _ _ (lt-leb _ _ room)
-      ∙ pass_not (printable v) _ _ (printable_all v name.bytes)
-      ∙ cond-false (given v names) _ _ new
+  name_taken u k names v name room new = grind (arith, nat_tests, step_taken, printable_all)
 
   names_taken : (rest : List Field) (last : State S) (u : S) (k : ℕ) (more names : List (List ℕ)) → length (names ++ more) ≤ max_alarms → All Name more → Apart (names ++ more) → runs K (naming u k (names ++ more)) rest ≡ Ok last → runs K (naming u k names) (map name_field more ++ rest) ≡ Ok last
   names_taken rest last u k [] names few good apart h = search rules

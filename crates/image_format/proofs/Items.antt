@@ -1,5 +1,5 @@
 -- The field at a place of an image, by the image's own bytes. Assumes nothing.
-use Rattle.std.proofs.Common.{◌≡◌, ℕ, zero, suc, ◌+◌, ◌*◌, ◌<◌, ◌≤◌, List, [], ◌∷◌, length, get_or, take, drop, sym, refl, ap, ◌∙◌, arith, rules}
+use Rattle.std.proofs.Common.{◌≡◌, ℕ, zero, suc, ◌+◌, ◌*◌, ◌<◌, ◌≤◌, List, [], ◌∷◌, length, get_or, take, drop, refl, ap, arith, rules}
 use Rattle.std.proofs.lemmas.List.{get_or-drop, drop-drop, drop_more}
 use Rattle.std.proofs.lemmas.Grind.{common_steps}
 use Rattle.std.proofs.lemmas.Bool.Decides.{nat_tests}
@@ -43,11 +43,7 @@ pub items_short : (image : List ℕ) (at : ℕ) → at < length image → short 
 items_short image at l e = grind (arith, nat_tests, common_steps)
 
 pub items_whole : (image : List ℕ) (at t : ℕ) (v : List ℕ) → at < length image → whole t v ≡ item (drop at image) → items 0 (drop at image) ≡ whole t v ∷ items 0 (drop (at + (3 + length v)) image)
-items_whole image at t v l e =
-    let d = drop_more image at 0 l in
-    let n : at + 1 + (2 + length v) ≡ at + (3 + length v) = omega arith in
-    ap (items 0) d ∙ items_first (get_or image at 0) (drop (at + 1) image) t v (ap item (sym d) ∙ sym e)
-    ∙ ap (λ is. whole t v ∷ is) (items_skip (2 + length v) (drop (at + 1) image) ∙ ap (items 0) (drop-drop (2 + length v) (at + 1) image) ∙ ap (λ k. items 0 (drop k image)) n)
+items_whole image at t v l e = grind (arith, common_steps, drop_more, items_first, items_skip, drop-drop)
 
 pub item_fits : (t : ℕ) (v bs : List ℕ) → whole t v ≡ item bs → 3 + length v ≤ length bs
 item_fits t v bs e = search rules

@@ -1,15 +1,14 @@
 -- Where a refusal stands, and that nothing behind the field at fault matters, for any kind of image. Assumes nothing.
-use Rattle.std.proofs.Common.{◌≡◌, ℕ, zero, suc, ◌+◌, ◌≤◌, ltb, ◌⊎◌, List, [], ◌∷◌, ◌++◌, length, drop, Err, Result, sym, ap, ◌∙◌, inl, inr, ⊎_elim, arith}
+use Rattle.std.proofs.Common.{◌≡◌, ℕ, zero, suc, ◌+◌, ◌≤◌, ◌⊎◌, List, [], ◌∷◌, ◌++◌, length, drop, Err, Result, sym, ap, ◌∙◌, inl, inr, arith}
 use Rattle.std.proofs.lemmas.List.{append_assoc, length-append}
-use Rattle.std.proofs.lemmas.Bool.{cases_Bool, cond-true, cond-false, le-ltb, ltb-true}
 use Rattle.std.proofs.lemmas.Bool.Decides.{nat_tests}
 use Rattle.std.proofs.lemmas.Grind.{common_steps}
 use Rattle.image_format.specs.declared.fault.ImageCause.{ImageCause}
-use Rattle.image_format.specs.declared.fault.ImageCause.TheVariants.{TooLong, NoName}
+use Rattle.image_format.specs.declared.fault.ImageCause.TheVariants.{NoName}
 use Rattle.image_format.specs.declared.fault.ImageFault.{ImageFault}
 use Rattle.image_format.specs.Fields.{Field, Bytes, Item, whole, short, bytes_of, encoding, item, items, max_image}
-use Rattle.image_format.specs.Images.{Kind, State, start, read, read_on, refused_at, step}
-use Rattle.image_format.specs.Laws.{Begins, Stands, too_long}
+use Rattle.image_format.specs.Images.{Kind, State, read, read_on, refused_at, step}
+use Rattle.image_format.specs.Laws.{Begins, Stands}
 use Rattle.image_format.proofs.Items.{by_item, items_cut, items_first}
 use Rattle.image_format.proofs.Rules.{by_answer}
 use Rattle.image_format.proofs.Whole.{item_bytes, item_of, items_cons, reads_on, refuses}
@@ -78,15 +77,11 @@ module _ {S : Type 0} (K : Kind S) where
   at_start image f (inr x) = grind (arith, nat_tests)
 
   pub stands : (u : S) (image : List ℕ) (f : ImageFault) → Bytes image → read K u image ≡ Err f → Stands image f
-  stands u image f small h =
-      ⊎_elim
-      (λ long. too_long (ltb-true _ _ long) (sym (same_err (sym (cond-true (ltb max_image (length image)) (refused_at TooLong max_image) (read_on K (start u) 0 (items 0 image)) long) ∙ h))))
-      (λ fit. at_start image f (stands_from image 0 (start u) 0 f small (sym (cond-false (ltb max_image (length image)) (refused_at TooLong max_image) (read_on K (start u) 0 (items 0 image)) fit) ∙ h)))
-      (cases_Bool (ltb max_image (length image)))
+  stands u image f small h = grind (arith, nat_tests, at_start, stands_from)
 
   -- the first of some fields, and what stands behind it
   pub cons : (f : Field) (before : List Field) (bs : List ℕ) (s : State S) (p : ℕ) → read_on K s p (items 0 (encoding (f ∷ before) ++ bs)) ≡ read_on K s p (item_of f ∷ items 0 (encoding before ++ bs))
-  cons f before bs s p = ap (λ w. read_on K s p (items 0 w)) (append_assoc (bytes_of f) (encoding before) bs) ∙ ap (read_on K s p) (items_cons f (encoding before ++ bs))
+  cons f before bs s p = simp (append_assoc, items_cons)
 
   module _ (g : Field) (rest other : List ℕ) (c : ImageCause) where
     ignored : (before : List Field) (s : State S) (p : ℕ)
@@ -116,16 +111,4 @@ module _ {S : Type 0} (K : Kind S) where
         → read K u (encoding before ++ (bytes_of g ++ rest)) ≡ refused_at c (length (encoding before))
         → length (encoding before ++ (bytes_of g ++ other)) ≤ max_image
         → read K u (encoding before ++ (bytes_of g ++ other)) ≡ refused_at c (length (encoding before))
-    rest_ignored u before h few =
-        let one = encoding before ++ (bytes_of g ++ rest) in let two = encoding before ++ (bytes_of g ++ other) in
-        let l = length-append (encoding before) (bytes_of g ++ other) in
-        let m = length-append (bytes_of g) other in
-        cond-false (ltb max_image (length two)) _ _ (le-ltb _ _ few)
-        ∙ ⊎_elim
-        (λ long.
-        let e = ap (λ (x : ImageFault). x.place) (same_err (sym (cond-true (ltb max_image (length one)) (refused_at TooLong max_image) (read_on K (start u) 0 (items 0 one)) long) ∙ h)) in
-        absurd (omega arith))
-        (λ fit.
-        let n : length (encoding before) ≡ 0 + length (encoding before) = omega arith in
-        ignored before (start u) 0 (sym (cond-false (ltb max_image (length one)) (refused_at TooLong max_image) (read_on K (start u) 0 (items 0 one)) fit) ∙ h ∙ ap (refused_at c) n) ∙ ap (refused_at c) (sym n))
-        (cases_Bool (ltb max_image (length one)))
+    rest_ignored u before h few = grind (arith, nat_tests, length-append, ignored)

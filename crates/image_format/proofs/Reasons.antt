@@ -1,10 +1,10 @@
 -- What the fields so far have told, by the fields themselves; and so why a field is refused. Assumes nothing.
-use Rattle.std.proofs.Common.{◌≡◌, ℕ, ◌≤◌, Bool, true, false, cond, eqb, List, [], ◌∷◌, ◌++◌, map, length, get_or, Result, refl, ap, ◌∙◌, arith, rules}
+use Rattle.std.proofs.Common.{◌≡◌, ℕ, ◌≤◌, Bool, true, false, cond, eqb, List, [], ◌∷◌, ◌++◌, length, Result, refl, ap, arith, rules}
 use Rattle.std.specs.Result.{result_map_both}
 use Rattle.std.proofs.lemmas.List.{map_push}
 use Rattle.std.proofs.lemmas.Bool.Decides.{nat_tests}
-use Rattle.sheet.specs.Books.{Book, new_book, max_alarms, max_limit}
-use Rattle.sheet.specs.Calls.{Call, after, next, opens}
+use Rattle.sheet.specs.Books.{Book, max_alarms, max_limit}
+use Rattle.sheet.specs.Calls.{Call, after, next}
 use Rattle.image_format.specs.declared.fault.ImageCause.{ImageCause}
 use Rattle.image_format.specs.declared.kinds.Counts.{Counts}
 use Rattle.image_format.specs.Counts.{counts, note_in}
@@ -40,14 +40,7 @@ after_more (d ∷ cs) b c = after_more cs (next b d) c
 
 -- a note more
 pub book_more : (fs : List Field) (g : Field) → g.tag ≡ 3 → book_in (fs ++ g ∷ []) ≡ next (book_in fs) (note_in g.value)
-book_more fs g e =
-    let one : tagged 1 (fs ++ g ∷ []) ≡ tagged 1 fs = tagged_other 1 fs g (λ x. omega arith) in
-    let two : tagged 2 (fs ++ g ∷ []) ≡ tagged 2 fs = tagged_other 2 fs g (λ x. omega arith) in
-    ap (λ ls. after new_book (opens (length (tagged 2 (fs ++ g ∷ []))) (get_or (get_or ls 0 []) 0 0) ∷ map note_in (tagged 3 (fs ++ g ∷ [])))) one
-    ∙ ap (λ ns. after new_book (opens (length ns) (limit_in fs) ∷ map note_in (tagged 3 (fs ++ g ∷ [])))) two
-    ∙ ap (λ vs. after new_book (opens (length (tagged 2 fs)) (limit_in fs) ∷ map note_in vs)) (tagged_more 3 fs g e)
-    ∙ ap (λ cs. after new_book (opens (length (tagged 2 fs)) (limit_in fs) ∷ cs)) (map_push note_in (tagged 3 fs) g.value)
-    ∙ after_more (opens (length (tagged 2 fs)) (limit_in fs) ∷ map note_in (tagged 3 fs)) new_book (note_in g.value)
+book_more fs g e = search (rules, tagged_other, tagged_more, map_push, after_more)
 
 -- the limit and the names, and no note yet
 pub record Naming (fs : List Field) (k : ℕ) (names : List (List ℕ)) : Type 0 where

@@ -1,15 +1,14 @@
 -- A refusal is for the first thing wrong, by the fields that stand before. Assumes nothing.
-use Rattle.std.proofs.Common.{◌≡◌, ℕ, ◌+◌, ◌≤◌, List, [], ◌∷◌, ◌++◌, length, get_or, Ok, Err, Result, sym, refl, ap, ◌∙◌, subst, ⊎_elim, arith, rules}
+use Rattle.std.proofs.Common.{◌≡◌, ℕ, ◌+◌, ◌≤◌, List, [], ◌∷◌, ◌++◌, length, Ok, Err, Result, sym, refl, ap, ◌∙◌, subst, ⊎_elim, arith, rules}
 use Rattle.std.proofs.lemmas.List.{append_assoc, append-nil, length-append, length_push}
 use Rattle.std.proofs.lemmas.Bool.Decides.{nat_tests}
 use Rattle.sheet.specs.Books.{Book}
-use Rattle.sheet.specs.Calls.{accepted, next, refusal}
 use Rattle.sheet.proofs.Causes.{checked_free, checked_value}
 use Rattle.image_format.specs.declared.fault.ImageCause.{ImageCause}
 use Rattle.image_format.specs.declared.fault.ImageCause.TheVariants.{CutShort, NoName}
 use Rattle.image_format.specs.declared.fault.ImageFault.{ImageFault}
 use Rattle.image_format.specs.declared.kinds.Counts.{Counts}
-use Rattle.image_format.specs.Counts.{counts, note_in, outcome}
+use Rattle.image_format.specs.Counts.{counts, outcome}
 use Rattle.image_format.specs.Fields.{Field, short, bytes_of, encoding, item, items, max_image}
 use Rattle.image_format.specs.Images.{State, start, naming, noting, Described, finished, opened, read_on, refused_at, step}
 use Rattle.image_format.specs.Refusals.{Fine, FineFrom, book_in, said_to, tagged}
@@ -27,31 +26,11 @@ three = omega arith
 -- a note that is taken
 told_note : (fs : List Field) (g : Field) (u : Counts) (b : Book) (m : ℕ) (s' : State Counts) → 1 ≤ length fs → 1 ≤ length (tagged 2 fs) → book_in fs ≡ b
     → step counts (noting u b m) g.tag g.value ≡ Ok s' → Told (fs ++ g ∷ []) s'
-told_note fs g u b m s' some name book h =
-    let n = noting_step counts three u b m g.tag g.value s' h in
-    let p = n.2.0 in let call = note_in g.value in
-    let free = checked_free (refusal b call) (u, accepted b call) p n.2.1 in
-    let left : accepted b call ≡ p.1 = ap (λ (q : Counts × Book). q.1) (checked_value (refusal b call) (u, accepted b call) p n.2.1) in
-    subst (Told (fs ++ g ∷ [])) n.2.2 (record {
-      some = omega (arith, length_push fs g);
-      named = omega (arith, ap length (tagged_other 2 fs g (λ x. omega (arith, n.0))));
-      noted = omega (arith, ap length (tagged_more 3 fs g n.0), length_push (tagged 3 fs) g.value);
-      book = book_more fs g n.0 ∙ ap (λ x. next x call) book ∙ next_accepted b call free ∙ left;
-    })
+told_note fs g u b m s' some name book h = grind (arith, nat_tests, noting_step, checked_free, checked_value, length_push, tagged_other, tagged_more, book_more, next_accepted)
 
 -- a name that is taken
 told_name : (fs : List Field) (g : Field) (u : Counts) (k : ℕ) (names : List (List ℕ)) (s' : State Counts) → Naming fs k names → NextName counts three u k names g.tag g.value s' → Told (fs ++ g ∷ []) s'
-told_name fs g u k names s' t n =
-    let one = tagged_other 1 fs g (λ x. omega (arith, n.0)) in
-    subst (Told (fs ++ g ∷ [])) n.4 (record {
-      some = omega (arith, length_push fs g);
-      limit = ap (λ ls. get_or (get_or ls 0 []) 0 0) one ∙ t.limit;
-      low = t.low;
-      high = t.high;
-      names_are = tagged_more 2 fs g n.0 ∙ ap (λ ns. ns ++ g.value ∷ []) t.names_are;
-      few = omega (arith, length_push names g.value, n.2);
-      none = tagged_other 3 fs g (λ x. omega (arith, n.0)) ∙ t.none;
-    })
+told_name fs g u k names s' t n = grind (arith, tagged_other, length_push, tagged_more)
 
 told_next : (fs : List Field) (s s' : State Counts) (g : Field) → Told fs s → step counts s g.tag g.value ≡ Ok s' → Told (fs ++ g ∷ []) s'
 told_next fs (start u) s' g e h = grind (arith, nat_tests)
@@ -137,8 +116,7 @@ module _ (before : List Field) (bs : List ℕ) (few : length (encoding before ++
       (w.0, w.1, within ∙ w.2 ∙ ap (λ q. read_on counts w.0 q (items 0 bs)) n)
 
   pub cut_refused : Fine before → 1 ≤ length bs → item bs ≡ short → outcome (encoding before ++ bs) ≡ refused_at CutShort (length (encoding before))
-  cut_refused fine some cut =
-      let w = behind fine in w.2 ∙ ap (read_on counts w.0 (length (encoding before))) (items_short bs 0 some (sym cut))
+  cut_refused fine some cut = grind (arith, behind, items_short)
 
 module _ (before : List Field) (g : Field) (rest : List ℕ) (c : ImageCause) (few : length (encoding before ++ (bytes_of g ++ rest)) ≤ max_image) where
   pub refused_for : outcome (encoding before ++ (bytes_of g ++ rest)) ≡ refused_at c (length (encoding before)) → Fine before × (said_to before g ≡ Err c)

@@ -5,8 +5,7 @@ use Rattle.std.proofs.lemmas.List.Sums.{list_all-from_AllPass}
 use Rattle.std.proofs.lemmas.List.{length_push, get_or_push, get_or_append_left, get_or_at, length-append}
 use Rattle.std.proofs.lemmas.Slice.Eq.{bytes_eq-Decides}
 use Rattle.std.proofs.lemmas.Bool.Decides.{nat_tests}
-use Rattle.std.proofs.lemmas.Bool.{or_parts, or_from, cases_Bool, cases_lt}
-use Rattle.std.proofs.lemmas.Grind.{common_steps}
+use Rattle.std.proofs.lemmas.Bool.{or_parts, or_from, cases_Bool}
 use Rattle.image_format.specs.Names.{printable, given, name_byte}
 use Rattle.image_format.specs.Names.{Apart, Printable}
 
@@ -19,15 +18,9 @@ by_answer (Err c) yes_ no_ = no_ c refl
 pub guard : {A E : Type 0} (b : Bool) (o : Result A E) (c : E) (x : A) → cond b (Err c) o ≡ Ok x → (b ≡ false) × (o ≡ Ok x)
 guard b o c x h = grind arith
 
-pub guard_not : {A E : Type 0} (b : Bool) (o : Result A E) (c : E) (x : A) → cond (not b) (Err c) o ≡ Ok x → (b ≡ true) × (o ≡ Ok x)
-guard_not b o c x h = grind arith
-
 -- and so leaves the answer to the next
 pub pass_not : {A : Type 0} (b : Bool) (x y : A) → b ≡ true → cond (not b) x y ≡ y
 pass_not b x y h = grind arith
-
-pub all_printable : (v : List ℕ) → printable v ≡ true → All Printable v
-all_printable v h = grind (arith, nat_tests, common_steps)
 
 pub printable_all : (v : List ℕ) → All Printable v → printable v ≡ true
 printable_all v h = list_all-from_AllPass name_byte v (λ k d l. let p = h k d l in grind (arith, nat_tests))
@@ -45,13 +38,7 @@ given_not v (n ∷ ns) h =
     (given_not v ns (λ i l e. h (suc i) (omega arith) e))
 
 pub apart_push : (v : List ℕ) (names : List (List ℕ)) → Apart names → given v names ≡ false → Apart (names ++ v ∷ [])
-apart_push v names a g i j l h e =
-    let n = length_push names v in
-    let ei = get_or_append_left names (v ∷ []) [] i (omega arith) in
-    ⊎_elim
-    (λ lt. a i j l lt (sym ei ∙ e ∙ get_or_append_left names (v ∷ []) [] j lt))
-    (λ ge. not_given v names g i (omega arith) (sym ei ∙ e ∙ get_or_push names v [] j (omega arith)))
-    (cases_lt j (length names))
+apart_push v names a g i j l h e = grind (arith, length_push, get_or_append_left, not_given, get_or_push)
 
 pub apart_here : (v : List ℕ) (names more : List (List ℕ)) → Apart (names ++ v ∷ more) → given v names ≡ false
 apart_here v names more a =

@@ -1,7 +1,7 @@
 -- An image holds at most one content. Assumes nothing.
-use Rattle.std.proofs.Common.{◌≡◌, ℕ, List, [], ◌∷◌, ◌++◌, map, get_or, sym, refl, ap, ◌∙◌, arith}
+use Rattle.std.proofs.Common.{◌≡◌, ℕ, List, [], ◌∷◌, ◌++◌, map, sym, refl, ap, ◌∙◌, arith}
 use Rattle.std.proofs.lemmas.Bool.Decides.{nat_tests}
-use Rattle.image_format.specs.Contents.{Note, Content, Holds, fields, limit_field, name_field, note_field}
+use Rattle.image_format.specs.Contents.{Note, Content, Holds, name_field, note_field}
 use Rattle.image_format.specs.Fields.{Field, Item, whole, short, encoding, items}
 use Rattle.image_format.proofs.Whole.{item_of, items_of}
 
@@ -49,11 +49,4 @@ same_names (v ∷ vs) (w ∷ ws) xs ys e =
     (ap (λ (f : Field). f.value ∷ vs) head ∙ ap (λ us. w ∷ us) r.0, r.1)
 
 pub content_unique : (image : List ℕ) (c d : Content) → Holds image c → Holds image d → c ≡ d
-content_unique image c d h g =
-    let e = same_encoding (fields c) (fields d) (sym h.bytes ∙ g.bytes) in
-    let head : limit_field c.limit ≡ limit_field d.limit = cc in
-    let rest : map name_field c.names ++ map note_field c.notes ≡ map name_field d.names ++ map note_field d.notes = cc in
-    let r = same_names c.names d.names c.notes d.notes rest in
-    ap (λ a. record { limit = a; names = c.names; notes = c.notes }) (ap (λ (f : Field). get_or f.value 0 0) head)
-    ∙ ap (λ a. record { limit = d.limit; names = a; notes = c.notes }) r.0
-    ∙ ap (λ a. record { limit = d.limit; names = d.names; notes = a }) r.1
+content_unique image c d h g = grind (arith, same_encoding, same_names)

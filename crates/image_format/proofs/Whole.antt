@@ -53,12 +53,7 @@ pub whole_item : (t : ℕ) (v bs : List ℕ) → item (bytes_of (record { tag = 
 whole_item t v bs = grind (arith, nat_tests, common_steps)
 
 pub items_cons : (f : Field) (bs : List ℕ) → items 0 (bytes_of f ++ bs) ≡ item_of f ∷ items 0 bs
-items_cons f bs =
-    let v = f.value in
-    ap (λ i. elim i [ whole t w ↦ whole t w ∷ items (2 + length w) ((length v / 256) ∷ (length v % 256) ∷ (v ++ bs)) | short ↦ short ∷ [] ]) (whole_item f.tag v bs)
-    ∙ ap (λ is. item_of f ∷ is)
-    (items_skip (2 + length v) ((length v / 256) ∷ (length v % 256) ∷ (v ++ bs))
-    ∙ ap (items 0) (sym (drop-drop (length v) 2 ((length v / 256) ∷ (length v % 256) ∷ (v ++ bs))) ∙ drop_at v bs (length v) refl))
+items_cons f bs = grind (arith, whole_item, items_skip, drop-drop, drop_at)
 
 pub items_of : (fs : List Field) → items 0 (encoding fs) ≡ map item_of fs
 items_of [] = refl
