@@ -6,13 +6,12 @@ use Rattle.std.proofs.lemmas.List.{length_push, get_or_push, get_or_append_left,
 use Rattle.std.proofs.lemmas.Slice.Eq.{bytes_eq-Decides}
 use Rattle.std.proofs.lemmas.Bool.Decides.{nat_tests}
 use Rattle.std.proofs.lemmas.Bool.{or_parts, or_from, cases_Bool}
-use Rattle.image_format.specs.Names.{printable, given, name_byte}
-use Rattle.image_format.specs.Names.{Apart, Printable}
+use Rattle.image_format.specs.Names.{Apart, Printable, printable, given, name_byte}
 
 -- an answer is a value or a fault
 pub by_answer : {A E P : Type 0} (r : Result A E) → ((x : A) → r ≡ Ok x → P) → ((c : E) → r ≡ Err c → P) → P
-by_answer (Ok x) yes_ no_ = yes_ x refl
-by_answer (Err c) yes_ no_ = no_ c refl
+by_answer (Ok x) at_ok at_err = at_ok x refl
+by_answer (Err c) at_ok at_err = at_err c refl
 
 -- a check that is passed
 pub guard : {A E : Type 0} (b : Bool) (o : Result A E) (c : E) (x : A) → cond b (Err c) o ≡ Ok x → (b ≡ false) × (o ≡ Ok x)

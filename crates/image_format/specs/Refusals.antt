@@ -40,7 +40,8 @@ right_length t n = if t == 1 then n == 1 else (if t == 2 then nat_le 1 n && nat_
 abbrev pub value_checked : List Field → (tag : ℕ) → List ℕ → Result (Unit {0}) ImageCause
 value_checked fs t v =
     if t == 1 then past ((Sheet Limit if beyond max_limit (slice_index v 0)) ∷ []) (Ok tt)
-    else (if t == 2 then past ((Sheet Alarms if nat_le max_alarms (length (tagged 2 fs))) ∷ (NameByte if not (printable v)) ∷ (SameName if given v (tagged 2 fs)) ∷ []) (Ok tt)
+    else (if t == 2 then
+    past ((Sheet Alarms if nat_le max_alarms (length (tagged 2 fs))) ∷ (NameByte if not (printable v)) ∷ (SameName if given v (tagged 2 fs)) ∷ []) (Ok tt)
     else result_map_both (λ x. x) Sheet (checked (refusal (book_in fs) (note_in v)) tt))
 
 -- what is said to a field behind others: it is checked for its tag, then its length, then its value
