@@ -4,9 +4,8 @@ use Rattle.std.specs.Str.{bytes_eq}
 use Rattle.std.proofs.lemmas.List.Sums.{list_all-from_AllPass}
 use Rattle.std.proofs.lemmas.List.{length_push, get_or_push, get_or_append_left, get_or_at, length-append}
 use Rattle.std.proofs.lemmas.Slice.Eq.{bytes_eq-Decides}
-use Rattle.std.proofs.lemmas.Bool.Decides.{nat_tests}
 use Rattle.std.proofs.lemmas.Bool.{or_parts, or_from, cases_Bool}
-use Rattle.image_format.specs.Names.{Apart, Printable, printable, given, name_byte}
+use Rattle.image_format.specs.Names.{Apart, Printable, printable, given}
 
 -- an answer is a value or a fault
 pub by_answer : {A E P : Type 0} (r : Result A E) → ((x : A) → r ≡ Ok x → P) → ((c : E) → r ≡ Err c → P) → P
@@ -22,7 +21,7 @@ pub pass_not : {A : Type 0} (b : Bool) (x y : A) → b ≡ true → cond (not b)
 pass_not b x y h = grind arith
 
 pub printable_all : (v : List ℕ) → All Printable v → printable v ≡ true
-printable_all v h = list_all-from_AllPass name_byte v (λ k d l. let p = h k d l in grind (arith, nat_tests))
+printable_all v h = search (rules, list_all-from_AllPass)
 
 pub not_given : (v : List ℕ) (names : List (List ℕ)) → given v names ≡ false → (i : ℕ) → i < length names → get_or names i [] ≡ v → ⊥
 not_given v [] g i l e = omega arith
