@@ -3,8 +3,7 @@ use Rattle.std.specs.Prelude.{ℕ, ◌+◌, Bool, if◌then◌else◌, not, ◌&
 use Rattle.std.specs.Result.{result_map_both}
 use Rattle.sheet.specs.Books.{Book, new_book, max_alarms, max_limit}
 use Rattle.sheet.specs.Calls.{accepted, opens}
-use Rattle.sheet.specs.Causes.{beyond}
-use Rattle.image_format.specs.Causes.{◌if◌, past}
+use Rattle.sheet.specs.Causes.{◌if◌, beyond, past}
 use Rattle.sheet.specs.declared.fault.Fault.{Fault}
 use Rattle.sheet.specs.declared.fault.Fault.TheVariants.{Alarms, Limit}
 use Rattle.image_format.specs.declared.fault.ImageCause.{ImageCause}

@@ -1,6 +1,6 @@
 -- What it is to write a text to a caller's buffer.
 use Rattle.std.specs.Prelude.{◌≡◌, ℕ, List, [], ◌∷◌, ◌++◌, length, drop, Ok, Result, OnOk, OnErr, nat_lt}
-use Rattle.image_format.specs.Causes.{◌if◌, past}
+use Rattle.sheet.specs.Causes.{◌if◌, past}
 use Rattle.image_format.specs.declared.fault.ImageCause.TheVariants.{ShortBuffer}
 use Rattle.image_format.specs.declared.fault.ImageFault.{ImageFault}
 
