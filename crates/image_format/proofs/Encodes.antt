@@ -1,42 +1,37 @@
 -- Fields with the shape of an accepted image run through. Assumes nothing.
-use Rattle.std.proofs.Common.{◌≡◌, ℕ, ◌+◌, ◌<◌, ◌≤◌, true, false, eqb, ltb, leb, List, [], ◌∷◌, ◌++◌, map, length, Ok, sym, refl, ap, ◌∙◌, subst, arith}
-use Rattle.std.specs.List.{AllByRecursion}
-use Rattle.std.proofs.lemmas.List.{append-nil, append_assoc, length-append}
-use Rattle.std.proofs.lemmas.Bool.{and_from, cond-true, cond-false, le-leb, lt-leb, lt-ltb, eq-eqb, ne_eqb}
+use Rattle.std.proofs.Common.{◌≡◌, ℕ, ◌+◌, ◌<◌, ◌≤◌, true, false, eqb, ltb, List, [], ◌∷◌, ◌++◌, map, length, All, Ok, sym, refl, ap, ◌∙◌, subst, arith, rules}
+use Rattle.std.proofs.lemmas.List.Elements.{All-head, All-tail}
+use Rattle.std.proofs.lemmas.List.{append_assoc, length-append}
+use Rattle.std.proofs.lemmas.Bool.{cond-true, cond-false, lt-ltb, ne_eqb}
 use Rattle.std.proofs.lemmas.Bool.Decides.{nat_tests}
 use Rattle.sheet.specs.Books.{Book, max_alarms, max_limit}
 use Rattle.sheet.specs.Causes.{beyond}
 use Rattle.image_format.specs.Fields.{Field}
-use Rattle.image_format.specs.Names.{Name, Apart, printable, given}
+use Rattle.image_format.specs.Names.{Name, Apart, given}
 use Rattle.image_format.specs.Images.{Kind, State, start, naming, noting, Described, in_order, fits, noted, opened, step, describes, finished}
 use Rattle.image_format.specs.Contents.{limit_field, name_field}
-use Rattle.image_format.proofs.Rules.{pass_not, printable_all, apart_here}
+use Rattle.image_format.proofs.Rules.{printable_all, apart_here}
 use Rattle.image_format.proofs.Shapes.{value_field, Fed, Shaped}
 use Rattle.image_format.proofs.Whole.{runs}
-use Rattle.image_format.proofs.Accepts.{cons_run, step_taken, fits_value}
+use Rattle.image_format.proofs.Accepts.{cons_run, step_taken}
 
 module _ {S : Type 0} (K : Kind S) (three : 3 ≤ K.tag) where
   name_taken : (u : S) (k : ℕ) (names : List (List ℕ)) (v : List ℕ) → Name v → length names < max_alarms → given v names ≡ false → step K (naming u k names) 2 v ≡ Ok (naming u k (names ++ v ∷ []))
-  name_taken u k names v name room new =
-      step_taken K three (naming u k names) 2 v refl (and_from _ _ (le-leb _ _ name.some) (le-leb _ _ name.few))
-      ∙ cond-false (leb max_alarms (length names)) _ _ (lt-leb _ _ room)
-      ∙ pass_not (printable v) _ _ (printable_all v name.bytes)
-      ∙ cond-false (given v names) _ _ new
+  name_taken u k names v name room new = grind (arith, nat_tests, step_taken, printable_all)
 
-  names_taken : (rest : List Field) (last : State S) (u : S) (k : ℕ) (more names : List (List ℕ)) → length (names ++ more) ≤ max_alarms → AllByRecursion Name more → Apart (names ++ more) → runs K (naming u k (names ++ more)) rest ≡ Ok last → runs K (naming u k names) (map name_field more ++ rest) ≡ Ok last
-  names_taken rest last u k [] names few good apart h = ap (λ ns. runs K (naming u k ns) rest) (sym (append-nil names)) ∙ h
+  names_taken : (rest : List Field) (last : State S) (u : S) (k : ℕ) (more names : List (List ℕ)) → length (names ++ more) ≤ max_alarms → All Name more → Apart (names ++ more) → runs K (naming u k (names ++ more)) rest ≡ Ok last → runs K (naming u k names) (map name_field more ++ rest) ≡ Ok last
+  names_taken rest last u k [] names few good apart h = search rules
   names_taken rest last u k (v ∷ more) names few good apart h =
       let e = append_assoc names (v ∷ []) more in
       cons_run K three (naming u k names) (naming u k (names ++ v ∷ [])) last (name_field v) (map name_field more ++ rest)
-      (name_taken u k names v good.0 (omega (arith, length-append names (v ∷ more))) (apart_here v names more apart))
-      (names_taken rest last u k more (names ++ v ∷ []) (omega (arith, ap length e)) good.1 (subst Apart (sym e) apart) (ap (λ ns. runs K (naming u k ns) rest) e ∙ h))
+      (name_taken u k names v (All-head Name v more good) (omega (arith, length-append names (v ∷ more))) (apart_here v names more apart))
+      (names_taken rest last u k more (names ++ v ∷ []) (omega (arith, ap length e)) (All-tail Name v more good) (subst Apart (sym e) apart) (ap (λ ns. runs K (naming u k ns) rest) e ∙ h))
 
   fits_own : (n : ℕ) → n ≡ K.size → fits K K.tag n ≡ true
-  fits_own n h = fits_value K three K.tag n refl ∙ eq-eqb n K.size h
+  fits_own n h = grind (arith, nat_tests)
 
   value_taken : (u : S) (b : Book) (p : S × Book) (m : ℕ) (v : List ℕ) → length v ≡ K.size → K.taken u b v ≡ Ok p → step K (noting u b m) K.tag v ≡ Ok (noting p.0 p.1 (m + 1))
-  value_taken u b p m v f h =
-      step_taken K three (noting u b m) K.tag v (eq-eqb _ _ refl) (fits_own (length v) f) ∙ ap (noted m) h
+  value_taken u b p m v f h = grind (arith, nat_tests)
 
   -- the values in turn, and what is then kept
   values_taken : (vs : List (List ℕ)) (u : S) (b b' : Book) (m : ℕ) → Fed K u b vs b' → (w : S) × (runs K (noting u b m) (map (value_field K) vs) ≡ Ok (noting w b' (m + length vs)))

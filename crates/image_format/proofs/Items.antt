@@ -1,8 +1,9 @@
 -- The field at a place of an image, by the image's own bytes. Assumes nothing.
-use Rattle.std.proofs.Common.{◌≡◌, ℕ, zero, suc, ◌+◌, ◌*◌, ◌<◌, ◌≤◌, true, leb, List, [], ◌∷◌, length, get_or, take, drop, sym, refl, ap, ◌∙◌, ⊎_elim, add-zero, arith}
-use Rattle.std.proofs.lemmas.List.{get_or-drop, length-drop, drop-drop, drop_more, length-take}
-use Rattle.std.proofs.lemmas.Bool.{cond-true, cond-false, le-leb, lt-leb, leb-true, cases_Bool}
-use Rattle.image_format.specs.Fields.{Item, whole, short, size, item, items, value_of}
+use Rattle.std.proofs.Common.{◌≡◌, ℕ, zero, suc, ◌+◌, ◌*◌, ◌<◌, ◌≤◌, List, [], ◌∷◌, length, get_or, take, drop, refl, ap, arith, rules}
+use Rattle.std.proofs.lemmas.List.{get_or-drop, drop-drop, drop_more}
+use Rattle.std.proofs.lemmas.Grind.{common_steps}
+use Rattle.std.proofs.lemmas.Bool.Decides.{nat_tests}
+use Rattle.image_format.specs.Fields.{Item, whole, short, size, item, items}
 
 abbrev pub size_at : List ℕ → ℕ → ℕ
 size_at image at = get_or image (at + 1) 0 * 256 + get_or image (at + 2) 0
@@ -11,47 +12,38 @@ pub size_drop : (image : List ℕ) (at : ℕ) → size (drop at image) ≡ size_
 size_drop image at = simp get_or-drop
 
 pub item_short : (image : List ℕ) (at : ℕ) → length image < at + 3 + size_at image at → short ≡ item (drop at image)
-item_short image at h =
-    let e = size_drop image at in let d = length-drop at image in
-    sym (cond-false (leb (3 + size (drop at image)) (length (drop at image))) _ _ (lt-leb _ _ (omega arith)))
+item_short image at h = grind (arith, nat_tests, common_steps)
 
 pub item_whole : (image : List ℕ) (at : ℕ) → at + 3 + size_at image at ≤ length image → whole (get_or image at 0) (take (size_at image at) (drop (at + 3) image)) ≡ item (drop at image)
-item_whole image at h =
-    let e = size_drop image at in let d = length-drop at image in
-    let r : leb (3 + size (drop at image)) (length (drop at image)) ≡ true = le-leb _ _ (omega arith) in
-    sym (cond-true (leb (3 + size (drop at image)) (length (drop at image))) (whole (get_or (drop at image) 0 0) (take (size (drop at image)) (drop 3 (drop at image)))) short r ∙ simp (get_or-drop, drop-drop, add-zero))
+item_whole image at h = grind (arith, nat_tests, common_steps)
 
 pub items_skip : (k : ℕ) (bs : List ℕ) → items k bs ≡ items 0 (drop k bs)
 items_skip zero bs = refl
 items_skip (suc k) [] = refl
 items_skip (suc k) (b ∷ bs) = items_skip k bs
 
+-- what begins at a byte is a whole field or cut short
+pub by_item : {P : Type 0} (i : Item) → ((t : ℕ) (v : List ℕ) → i ≡ whole t v → P) → (i ≡ short → P) → P
+by_item (whole t v) all cut = all t v refl
+by_item short all cut = cut refl
+
 front : (bs : List ℕ) (i : Item) → List Item
 front bs i = elim i [ whole t v ↦ whole t v ∷ items (2 + length v) bs | short ↦ short ∷ [] ]
 
+pub items_first : (b : ℕ) (bs : List ℕ) (t : ℕ) (v : List ℕ) → item (b ∷ bs) ≡ whole t v → items 0 (b ∷ bs) ≡ whole t v ∷ items (2 + length v) bs
+unfolding front
+items_first b bs t v e = ap (front bs) e
+
+pub items_cut : (b : ℕ) (bs : List ℕ) → item (b ∷ bs) ≡ short → items 0 (b ∷ bs) ≡ short ∷ []
+unfolding front
+items_cut b bs e = ap (front bs) e
+
 -- the fields from a place on, by the one that begins there
 pub items_short : (image : List ℕ) (at : ℕ) → at < length image → short ≡ item (drop at image) → items 0 (drop at image) ≡ short ∷ []
-unfolding front
-items_short image at l e =
-    let d = drop_more image at 0 l in
-    ap (items 0) d ∙ ap (front (drop (at + 1) image)) (ap item (sym d) ∙ sym e)
+items_short image at l e = grind (arith, nat_tests, common_steps)
 
 pub items_whole : (image : List ℕ) (at t : ℕ) (v : List ℕ) → at < length image → whole t v ≡ item (drop at image) → items 0 (drop at image) ≡ whole t v ∷ items 0 (drop (at + (3 + length v)) image)
-unfolding front
-items_whole image at t v l e =
-    let d = drop_more image at 0 l in
-    let n : at + 1 + (2 + length v) ≡ at + (3 + length v) = omega arith in
-    ap (items 0) d ∙ ap (front (drop (at + 1) image)) (ap item (sym d) ∙ sym e)
-    ∙ ap (λ is. whole t v ∷ is) (items_skip (2 + length v) (drop (at + 1) image) ∙ ap (items 0) (drop-drop (2 + length v) (at + 1) image) ∙ ap (λ k. items 0 (drop k image)) n)
+items_whole image at t v l e = grind (arith, common_steps, drop_more, items_first, items_skip, drop-drop)
 
 pub item_fits : (t : ℕ) (v bs : List ℕ) → whole t v ≡ item bs → 3 + length v ≤ length bs
-item_fits t v bs e =
-    ⊎_elim
-    (λ h.
-    let w : v ≡ take (size bs) (drop 3 bs) = ap value_of (e ∙ cond-true (leb (3 + size bs) (length bs)) _ _ h) in
-    let n = ap length w ∙ length-take (size bs) (drop 3 bs) in
-    omega (arith, leb-true _ _ h, length-drop 3 bs))
-    (λ h.
-    let w : whole t v ≡ short = e ∙ cond-false (leb (3 + size bs) (length bs)) _ _ h in
-    let z : ◌≡◌ {A = ℕ} 0 1 = cc in omega arith)
-    (cases_Bool (leb (3 + size bs) (length bs)))
+item_fits t v bs e = search rules

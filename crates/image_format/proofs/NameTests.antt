@@ -1,18 +1,17 @@
 -- Tests on names, one byte or one name at a time. Assumes nothing.
-use Rattle.std.proofs.Common.{◌≡◌, ℕ, ◌+◌, ◌<◌, true, false, ◌&&◌, ◌||◌, List, [], length, get_or, drop, sym, ap, ◌∙◌}
-use Rattle.std.proofs.lemmas.List.{at_drop_more}
-use Rattle.std.proofs.lemmas.Bool.{and_left, or_left}
+use Rattle.std.proofs.Common.{◌≡◌, ℕ, ◌+◌, ◌<◌, true, false, List, [], length, get_or, drop, arith}
+use Rattle.std.proofs.lemmas.Grind.{common_steps}
+use Rattle.std.proofs.lemmas.Bool.Decides.{nat_tests}
 use Rattle.image_format.specs.Names.{name_byte, printable, same_name, given}
 
 pub print_good : (xs : List ℕ) (i : ℕ) → i < length xs → name_byte (get_or xs i 0) ≡ true → printable (drop (i + 1) xs) ≡ printable (drop i xs)
-print_good xs i l good = sym (at_drop_more printable xs i 0 l ∙ ap (λ t. t && printable (drop (i + 1) xs)) good)
+print_good xs i l good = grind (arith, nat_tests, common_steps)
 
 pub print_bad : (xs : List ℕ) (i : ℕ) → i < length xs → name_byte (get_or xs i 0) ≡ false → printable (drop i xs) ≡ false
-print_bad xs i l bad = at_drop_more printable xs i 0 l ∙ and_left (name_byte (get_or xs i 0)) _ bad
+print_bad xs i l bad = grind (arith, nat_tests, common_steps)
 
 pub given_other : (v : List ℕ) (names : List (List ℕ)) (i : ℕ) → i < length names → same_name (get_or names i []) v ≡ false → given v (drop (i + 1) names) ≡ given v (drop i names)
-given_other v names i l h =
-    sym (at_drop_more (given v) names i [] l ∙ ap (λ t. t || given v (drop (i + 1) names)) h)
+given_other v names i l h = grind (arith, nat_tests, common_steps)
 
 pub given_here : (v : List ℕ) (names : List (List ℕ)) (i : ℕ) → i < length names → same_name (get_or names i []) v ≡ true → given v (drop i names) ≡ true
-given_here v names i l h = at_drop_more (given v) names i [] l ∙ or_left _ _ h
+given_here v names i l h = grind (arith, nat_tests, common_steps)

@@ -1,47 +1,37 @@
 -- Where a refusal stands, and that nothing behind the field at fault matters, for any kind of image. Assumes nothing.
-use Rattle.std.proofs.Common.{◌≡◌, ℕ, zero, suc, ◌+◌, ◌≤◌, ltb, ◌⊎◌, List, [], ◌∷◌, ◌++◌, length, drop, Ok, Err, Result, sym, refl, ap, ◌∙◌, subst, inl, inr, ⊎_elim, arith}
-use Rattle.std.proofs.lemmas.List.{append_assoc, drop_all, length-append}
-use Rattle.std.proofs.lemmas.Bool.{cases_Bool, cond-true, cond-false, le-ltb, ltb-true}
+use Rattle.std.proofs.Common.{◌≡◌, ℕ, zero, suc, ◌+◌, ◌≤◌, ◌⊎◌, List, [], ◌∷◌, ◌++◌, length, drop, Err, Result, sym, ap, ◌∙◌, inl, inr, arith}
+use Rattle.std.proofs.lemmas.List.{append_assoc, length-append}
 use Rattle.std.proofs.lemmas.Bool.Decides.{nat_tests}
+use Rattle.std.proofs.lemmas.Grind.{common_steps}
 use Rattle.image_format.specs.declared.fault.ImageCause.{ImageCause}
-use Rattle.image_format.specs.declared.fault.ImageCause.TheVariants.{TooLong, NoName}
+use Rattle.image_format.specs.declared.fault.ImageCause.TheVariants.{NoName}
 use Rattle.image_format.specs.declared.fault.ImageFault.{ImageFault}
 use Rattle.image_format.specs.Fields.{Field, Bytes, Item, whole, short, bytes_of, encoding, item, items, max_image}
-use Rattle.image_format.specs.Images.{Kind, State, start, naming, noting, Described, describes, finished, opened, read, read_on, refused_at, step}
-use Rattle.image_format.specs.Laws.{Begins, Stands, too_long, at_end, at_field}
-use Rattle.image_format.proofs.Whole.{item_bytes, item_of, items_cons}
+use Rattle.image_format.specs.Images.{Kind, State, read, read_on, refused_at, step}
+use Rattle.image_format.specs.Laws.{Begins, Stands}
+use Rattle.image_format.proofs.Items.{by_item, items_cut, items_first}
+use Rattle.image_format.proofs.Rules.{by_answer}
+use Rattle.image_format.proofs.Whole.{item_bytes, item_of, items_cons, reads_on, refuses}
 
 pub same_err : {A B : Type 0} {x y : B} → ◌≡◌ {A = Result A B} (Err x) (Err y) → x ≡ y
 same_err e = cc
 
 module _ {S : Type 0} (K : Kind S) where
-  -- an end that is refused is refused for its names
-  end_refused : (s : State S) (p : ℕ) (f : ImageFault) → finished s p ≡ Err f → f ≡ record { cause = NoName; place = p }
-  end_refused (start u) p f h = sym (same_err h)
-  end_refused (naming u k []) p f h = sym (same_err h)
-  end_refused (naming u k (n ∷ ns)) p f h =
-      let e = cond-true (ltb 0 (length (n ∷ ns))) (describes (opened (length (n ∷ ns)) k) 0) (refused_at NoName p) (grind (arith, nat_tests)) in
-      let w : describes (opened (length (n ∷ ns)) k) 0 ≡ Err f = sym e ∙ h in
-      let z : ◌≡◌ {A = ℕ} 0 1 = cc in absurd (omega arith)
-  end_refused (noting u b m) p f h = let z : ◌≡◌ {A = ℕ} 0 1 = cc in absurd (omega arith)
-
   -- no refusal stands before the place where reading goes on
   pub not_before : (is : List Item) (s : State S) (p : ℕ) (f : ImageFault) → read_on K s p is ≡ Err f → p ≤ f.place
-  not_before [] s p f h = omega (arith, ap (λ (g : ImageFault). g.place) (end_refused s p f h))
-  not_before (short ∷ is) s p f h = omega (arith, ap (λ (g : ImageFault). g.place) (same_err h))
-  not_before (whole t v ∷ is) s p f h = go (λ s'. not_before is s' (p + (3 + length v)) f) (step K s t v) h
-    where
-      go : ((s' : State S) → read_on K s' (p + (3 + length v)) is ≡ Err f → p + (3 + length v) ≤ f.place) → (o : Result (State S) ImageCause)
-          → ◌≡◌ {A = Result Described ImageFault} (elim o [ Ok s' ↦ read_on K s' (p + (3 + length v)) is | Err c ↦ refused_at c p ]) (Err f) → p ≤ f.place
-      go next (Err c) g = omega (arith, ap (λ (x : ImageFault). x.place) (same_err g))
-      go next (Ok s') g = omega (arith, next s' g)
+  not_before [] s p f h = grind (arith, nat_tests)
+  not_before (short ∷ is) s p f h = grind (arith, nat_tests)
+  not_before (whole t v ∷ is) s p f h =
+      by_answer (step K s t v)
+      (λ s' e. omega (arith, not_before is s' (p + (3 + length v)) f (sym (reads_on K s p t v is s' e) ∙ h)))
+      (λ c e. omega (arith, ap (λ (x : ImageFault). x.place) (same_err (sym (refuses K s p t v is c e) ∙ h))))
 
   -- the bytes from a place p on: the refusal is at their end, or where a field of them begins
   abbrev From : List ℕ → ℕ → ImageFault → Type 0
   From bs p f = (f ≡ record { cause = NoName; place = p + length bs }) ⊎ ((q : ℕ) × Begins bs q × (f.place ≡ p + q))
 
   here : (b : ℕ) (bs : List ℕ) (p : ℕ) (f : ImageFault) → f.place ≡ p → From (b ∷ bs) p f
-  here b bs p f e = inr (0, record { before = []; rest = b ∷ bs; bytes = refl; length_is = refl; some = omega arith }, omega arith)
+  here b bs p f e = grind (arith, nat_tests)
 
   -- behind a field that was taken
   behind : (t : ℕ) (v bs rest : List ℕ) (p : ℕ) (f : ImageFault) → bs ≡ bytes_of (record { tag = t; value = v }) ++ rest → From rest (p + (3 + length v)) f → From bs p f
@@ -65,83 +55,60 @@ module _ {S : Type 0} (K : Kind S) where
         omega (arith, x.2),
       )
 
-  module _ (b : ℕ) (bs : List ℕ) (s : State S) (p : ℕ) (f : ImageFault) (small : Bytes (b ∷ bs))
-      (next : (k : ℕ) (s' : State S) (p' : ℕ) → read_on K s' p' (items k bs) ≡ Err f → From (drop k bs) p' f) where
-    stepped : (t : ℕ) (v : List ℕ) → whole t v ≡ item (b ∷ bs) → (o : Result (State S) ImageCause)
-        → ◌≡◌ {A = Result Described ImageFault} (elim o [ Ok s' ↦ read_on K s' (p + (3 + length v)) (items (2 + length v) bs) | Err c ↦ refused_at c p ]) (Err f) → From (b ∷ bs) p f
-    stepped t v e (Err c) g = here b bs p f (sym (ap (λ (x : ImageFault). x.place) (same_err g)))
-    stepped t v e (Ok s') g =
-        let n : 3 + length v ≡ suc (2 + length v) = omega arith in
-        let w = item_bytes t v (b ∷ bs) small e ∙ ap (λ k. bytes_of (record { tag = t; value = v }) ++ drop k (b ∷ bs)) n in
-        behind t v (b ∷ bs) (drop (2 + length v) bs) p f w (next (2 + length v) s' (p + (3 + length v)) g)
-
-    begun : (i : Item) → i ≡ item (b ∷ bs) → read_on K s p (elim i [ whole t v ↦ whole t v ∷ items (2 + length v) bs | short ↦ short ∷ [] ]) ≡ Err f → From (b ∷ bs) p f
-    begun short e g = here b bs p f (sym (ap (λ (x : ImageFault). x.place) (same_err g)))
-    begun (whole t v) e g = stepped t v e (step K s t v) g
-
   stands_from : (bs : List ℕ) (skip : ℕ) (s : State S) (p : ℕ) (f : ImageFault) → Bytes bs → read_on K s p (items skip bs) ≡ Err f → From (drop skip bs) p f
-  stands_from [] skip s p f small h =
-      let n : length (drop {A = ℕ} skip []) ≡ 0 = ap length (drop_all skip [] (omega arith)) in
-      let m : p ≡ p + length (drop {A = ℕ} skip []) = omega arith in
-      inl (end_refused s p f h ∙ ap (λ q. record { cause = NoName; place = q }) m)
+  stands_from [] skip s p f small h = grind (arith, nat_tests, common_steps)
   stands_from (b ∷ bs) (suc k) s p f small h = stands_from bs k s p f (λ i. small (suc i)) h
-  stands_from (b ∷ bs) zero s p f small h = begun b bs s p f small (λ k s' p' g. stands_from bs k s' p' f (λ i. small (suc i)) g) (item (b ∷ bs)) refl h
+  stands_from (b ∷ bs) zero s p f small h =
+      by_item (item (b ∷ bs))
+      (λ t v e.
+      let is = items (2 + length v) bs in
+      let first = sym (ap (read_on K s p) (items_first b bs t v e)) ∙ h in
+      by_answer (step K s t v)
+      (λ s' w.
+      let n : 3 + length v ≡ suc (2 + length v) = omega arith in
+      let g : Field = record { tag = t; value = v } in
+      behind t v (b ∷ bs) (drop (2 + length v) bs) p f (item_bytes t v (b ∷ bs) small (sym e) ∙ ap (λ k. bytes_of g ++ drop k (b ∷ bs)) n)
+      (stands_from bs (2 + length v) s' (p + (3 + length v)) f (λ i. small (suc i)) (sym (reads_on K s p t v is s' w) ∙ first)))
+      (λ c w. here b bs p f (sym (ap (λ (x : ImageFault). x.place) (same_err (sym (refuses K s p t v is c w) ∙ first))))))
+      (λ e. here b bs p f (sym (ap (λ (x : ImageFault). x.place) (same_err (sym (ap (read_on K s p) (items_cut b bs e)) ∙ h)))))
 
   at_start : (image : List ℕ) (f : ImageFault) → From image 0 f → Stands image f
-  at_start image f (inl x) = let n : 0 + length image ≡ length image = omega arith in at_end (x ∙ ap (λ q. record { cause = NoName; place = q }) n)
-  at_start image f (inr x) = let n : x.0 ≡ f.place = omega (arith, x.2) in at_field (subst (Begins image) n x.1)
+  at_start image f (inl x) = grind (arith, nat_tests)
+  at_start image f (inr x) = grind (arith, nat_tests)
 
   pub stands : (u : S) (image : List ℕ) (f : ImageFault) → Bytes image → read K u image ≡ Err f → Stands image f
-  stands u image f small h =
-      ⊎_elim
-      (λ long. too_long (ltb-true _ _ long) (sym (same_err (sym (cond-true (ltb max_image (length image)) (refused_at TooLong max_image) (read_on K (start u) 0 (items 0 image)) long) ∙ h))))
-      (λ fit. at_start image f (stands_from image 0 (start u) 0 f small (sym (cond-false (ltb max_image (length image)) (refused_at TooLong max_image) (read_on K (start u) 0 (items 0 image)) fit) ∙ h)))
-      (cases_Bool (ltb max_image (length image)))
+  stands u image f small h = grind (arith, nat_tests, at_start, stands_from)
 
   -- the first of some fields, and what stands behind it
   pub cons : (f : Field) (before : List Field) (bs : List ℕ) (s : State S) (p : ℕ) → read_on K s p (items 0 (encoding (f ∷ before) ++ bs)) ≡ read_on K s p (item_of f ∷ items 0 (encoding before ++ bs))
-  cons f before bs s p = ap (λ w. read_on K s p (items 0 w)) (append_assoc (bytes_of f) (encoding before) bs) ∙ ap (read_on K s p) (items_cons f (encoding before ++ bs))
+  cons f before bs s p = simp (append_assoc, items_cons)
 
   module _ (g : Field) (rest other : List ℕ) (c : ImageCause) where
     ignored : (before : List Field) (s : State S) (p : ℕ)
         → read_on K s p (items 0 (encoding before ++ (bytes_of g ++ rest))) ≡ refused_at c (p + length (encoding before))
         → read_on K s p (items 0 (encoding before ++ (bytes_of g ++ other))) ≡ refused_at c (p + length (encoding before))
-    ignored [] s p h = ap (read_on K s p) (items_cons g other) ∙ go (step K s g.tag g.value) (sym (ap (read_on K s p) (items_cons g rest)) ∙ h)
-      where
-        go : (o : Result (State S) ImageCause)
-            → ◌≡◌ {A = Result Described ImageFault} (elim o [ Ok s' ↦ read_on K s' (p + (3 + length g.value)) (items 0 rest) | Err c' ↦ refused_at c' p ]) (refused_at c (p + 0))
-            → ◌≡◌ {A = Result Described ImageFault} (elim o [ Ok s' ↦ read_on K s' (p + (3 + length g.value)) (items 0 other) | Err c' ↦ refused_at c' p ]) (refused_at c (p + 0))
-        go (Err c') e = e
-        go (Ok s') e = absurd (omega (arith, not_before (items 0 rest) s' (p + (3 + length g.value)) (record { cause = c; place = p + 0 }) e))
+    ignored [] s p h =
+        let is = items 0 rest in
+        let first = sym (ap (read_on K s p) (items_cons g rest)) ∙ h in
+        ap (read_on K s p) (items_cons g other)
+        ∙ by_answer (step K s g.tag g.value)
+        (λ s' e. absurd (omega (arith, not_before is s' (p + (3 + length g.value)) (record { cause = c; place = p + 0 }) (sym (reads_on K s p g.tag g.value is s' e) ∙ first))))
+        (λ d e. refuses K s p g.tag g.value (items 0 other) d e ∙ sym (refuses K s p g.tag g.value is d e) ∙ first)
     ignored (f ∷ before) s p h =
+        let first = sym (cons f before (bytes_of g ++ rest) s p) ∙ h in
+        let one = items 0 (encoding before ++ (bytes_of g ++ rest)) in let two = items 0 (encoding before ++ (bytes_of g ++ other)) in
         cons f before (bytes_of g ++ other) s p
-        ∙ go (λ s'. ignored before s' (p + (3 + length f.value))) (step K s f.tag f.value) (sym (cons f before (bytes_of g ++ rest) s p) ∙ h)
-      where
-        go : ((s' : State S) → read_on K s' (p + (3 + length f.value)) (items 0 (encoding before ++ (bytes_of g ++ rest))) ≡ refused_at c (p + (3 + length f.value) + length (encoding before))
-            → read_on K s' (p + (3 + length f.value)) (items 0 (encoding before ++ (bytes_of g ++ other))) ≡ refused_at c (p + (3 + length f.value) + length (encoding before)))
-            → (o : Result (State S) ImageCause)
-            → ◌≡◌ {A = Result Described ImageFault} (elim o [ Ok s' ↦ read_on K s' (p + (3 + length f.value)) (items 0 (encoding before ++ (bytes_of g ++ rest))) | Err c' ↦ refused_at c' p ]) (refused_at c (p + length (encoding (f ∷ before))))
-            → ◌≡◌ {A = Result Described ImageFault} (elim o [ Ok s' ↦ read_on K s' (p + (3 + length f.value)) (items 0 (encoding before ++ (bytes_of g ++ other))) | Err c' ↦ refused_at c' p ]) (refused_at c (p + length (encoding (f ∷ before))))
-        go next (Err c') e = e
-        go next (Ok s') e =
-            let l = length-append (bytes_of f) (encoding before) in
-            let n : p + length (encoding (f ∷ before)) ≡ p + (3 + length f.value) + length (encoding before) = omega arith in
-            next s' (e ∙ ap (refused_at c) n) ∙ ap (refused_at c) (sym n)
+        ∙ by_answer (step K s f.tag f.value)
+        (λ s' e.
+        let l = length-append (bytes_of f) (encoding before) in
+        let n : p + length (encoding (f ∷ before)) ≡ p + (3 + length f.value) + length (encoding before) = omega arith in
+        reads_on K s p f.tag f.value two s' e
+        ∙ ignored before s' (p + (3 + length f.value)) (sym (reads_on K s p f.tag f.value one s' e) ∙ first ∙ ap (refused_at c) n)
+        ∙ ap (refused_at c) (sym n))
+        (λ d e. refuses K s p f.tag f.value two d e ∙ sym (refuses K s p f.tag f.value one d e) ∙ first)
 
     pub rest_ignored : (u : S) (before : List Field)
         → read K u (encoding before ++ (bytes_of g ++ rest)) ≡ refused_at c (length (encoding before))
         → length (encoding before ++ (bytes_of g ++ other)) ≤ max_image
         → read K u (encoding before ++ (bytes_of g ++ other)) ≡ refused_at c (length (encoding before))
-    rest_ignored u before h few =
-        let one = encoding before ++ (bytes_of g ++ rest) in let two = encoding before ++ (bytes_of g ++ other) in
-        let l = length-append (encoding before) (bytes_of g ++ other) in
-        let m = length-append (bytes_of g) other in
-        cond-false (ltb max_image (length two)) _ _ (le-ltb _ _ few)
-        ∙ ⊎_elim
-        (λ long.
-        let e = ap (λ (x : ImageFault). x.place) (same_err (sym (cond-true (ltb max_image (length one)) (refused_at TooLong max_image) (read_on K (start u) 0 (items 0 one)) long) ∙ h)) in
-        absurd (omega arith))
-        (λ fit.
-        let n : length (encoding before) ≡ 0 + length (encoding before) = omega arith in
-        ignored before (start u) 0 (sym (cond-false (ltb max_image (length one)) (refused_at TooLong max_image) (read_on K (start u) 0 (items 0 one)) fit) ∙ h ∙ ap (refused_at c) n) ∙ ap (refused_at c) (sym n))
-        (cases_Bool (ltb max_image (length one)))
+    rest_ignored u before h few = grind (arith, nat_tests, length-append, ignored)

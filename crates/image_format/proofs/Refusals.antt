@@ -1,24 +1,24 @@
 -- A refusal is for the first thing wrong, by the fields that stand before. Assumes nothing.
-use Rattle.std.proofs.Common.{◌≡◌, ℕ, ◌+◌, ◌≤◌, ltb, List, [], ◌∷◌, ◌++◌, length, get_or, Ok, Err, Result, sym, refl, ap, ◌∙◌, subst, ⊎_elim, arith}
+use Rattle.std.proofs.Common.{◌≡◌, ℕ, ◌+◌, ◌≤◌, List, [], ◌∷◌, ◌++◌, length, Ok, Err, Result, sym, refl, ap, ◌∙◌, subst, ⊎_elim, arith, rules}
 use Rattle.std.proofs.lemmas.List.{append_assoc, append-nil, length-append, length_push}
-use Rattle.std.proofs.lemmas.Bool.{cond-false, le-ltb}
+use Rattle.std.proofs.lemmas.Bool.Decides.{nat_tests}
 use Rattle.sheet.specs.Books.{Book}
-use Rattle.sheet.specs.Calls.{accepted, next, refusal}
 use Rattle.sheet.proofs.Causes.{checked_free, checked_value}
 use Rattle.image_format.specs.declared.fault.ImageCause.{ImageCause}
 use Rattle.image_format.specs.declared.fault.ImageCause.TheVariants.{CutShort, NoName}
 use Rattle.image_format.specs.declared.fault.ImageFault.{ImageFault}
 use Rattle.image_format.specs.declared.kinds.Counts.{Counts}
-use Rattle.image_format.specs.Counts.{counts, note_in, outcome}
+use Rattle.image_format.specs.Counts.{counts, outcome}
 use Rattle.image_format.specs.Fields.{Field, short, bytes_of, encoding, item, items, max_image}
 use Rattle.image_format.specs.Images.{State, start, naming, noting, Described, finished, opened, read_on, refused_at, step}
 use Rattle.image_format.specs.Refusals.{Fine, FineFrom, book_in, said_to, tagged}
-use Rattle.image_format.proofs.Accepts.{NextName, limit_step, naming_step, noting_step}
+use Rattle.image_format.proofs.Accepts.{NextName, naming_step, noting_step}
 use Rattle.image_format.proofs.Places.{cons, not_before, same_err}
 use Rattle.image_format.proofs.Reasons.{Naming, Told, book_more, book_opened, plainly, step_said, tagged_more, tagged_other}
 use Rattle.image_format.proofs.Tellings.{next_accepted}
 use Rattle.image_format.proofs.Items.{items_short}
-use Rattle.image_format.proofs.Whole.{items_cons}
+use Rattle.image_format.proofs.Rules.{by_answer}
+use Rattle.image_format.proofs.Whole.{items_cons, reads_on, refuses}
 
 three : 3 ≤ counts.tag
 three = omega arith
@@ -26,47 +26,14 @@ three = omega arith
 -- a note that is taken
 told_note : (fs : List Field) (g : Field) (u : Counts) (b : Book) (m : ℕ) (s' : State Counts) → 1 ≤ length fs → 1 ≤ length (tagged 2 fs) → book_in fs ≡ b
     → step counts (noting u b m) g.tag g.value ≡ Ok s' → Told (fs ++ g ∷ []) s'
-told_note fs g u b m s' some name book h =
-    let n = noting_step counts three u b m g.tag g.value s' h in
-    let p = n.2.0 in let call = note_in g.value in
-    let free = checked_free (refusal b call) (u, accepted b call) p n.2.1 in
-    let left : accepted b call ≡ p.1 = ap (λ (q : Counts × Book). q.1) (checked_value (refusal b call) (u, accepted b call) p n.2.1) in
-    subst (Told (fs ++ g ∷ [])) n.2.2 (record {
-      some = omega (arith, length_push fs g);
-      named = omega (arith, ap length (tagged_other 2 fs g (λ x. omega (arith, n.0))));
-      noted = omega (arith, ap length (tagged_more 3 fs g n.0), length_push (tagged 3 fs) g.value);
-      book = book_more fs g n.0 ∙ ap (λ x. next x call) book ∙ next_accepted b call free ∙ left;
-    })
+told_note fs g u b m s' some name book h = grind (arith, nat_tests, noting_step, checked_free, checked_value, length_push, tagged_other, tagged_more, book_more, next_accepted)
 
 -- a name that is taken
 told_name : (fs : List Field) (g : Field) (u : Counts) (k : ℕ) (names : List (List ℕ)) (s' : State Counts) → Naming fs k names → NextName counts three u k names g.tag g.value s' → Told (fs ++ g ∷ []) s'
-told_name fs g u k names s' t n =
-    let one = tagged_other 1 fs g (λ x. omega (arith, n.0)) in
-    subst (Told (fs ++ g ∷ [])) n.4 (record {
-      some = omega (arith, length_push fs g);
-      limit = ap (λ ls. get_or (get_or ls 0 []) 0 0) one ∙ t.limit;
-      low = t.low;
-      high = t.high;
-      names_are = tagged_more 2 fs g n.0 ∙ ap (λ ns. ns ++ g.value ∷ []) t.names_are;
-      few = omega (arith, length_push names g.value, n.2);
-      none = tagged_other 3 fs g (λ x. omega (arith, n.0)) ∙ t.none;
-    })
-
-told_limit : (g : Field) (u : Counts) (s' : State Counts) → step counts (start u) g.tag g.value ≡ Ok s' → Told (g ∷ []) s'
-told_limit g u s' h =
-    let l = limit_step counts three u g s' h in let k = get_or g.value 0 0 in
-    subst (Told (g ∷ [])) l.3 (subst (λ f. Naming (f ∷ []) k []) (sym l.0) (record {
-      some = omega arith;
-      limit = refl;
-      low = l.1;
-      high = l.2;
-      names_are = refl;
-      few = omega arith;
-      none = refl;
-    }))
+told_name fs g u k names s' t n = grind (arith, tagged_other, length_push, tagged_more)
 
 told_next : (fs : List Field) (s s' : State Counts) (g : Field) → Told fs s → step counts s g.tag g.value ≡ Ok s' → Told (fs ++ g ∷ []) s'
-told_next fs (start u) s' g e h = subst (λ x. Told (x ++ g ∷ []) s') (sym e) (told_limit g u s' h)
+told_next fs (start u) s' g e h = grind (arith, nat_tests)
 told_next fs (naming u k names) s' g t h =
     ⊎_elim {C = Told (fs ++ g ∷ []) s'}
     (λ n. told_name fs g u k names s' t n)
@@ -76,19 +43,19 @@ told_next fs (noting u b m) s' g t h = told_note fs g u b m s' t.some t.named t.
 
 -- an answer without its value, told by the answer
 said_ok : (fs : List Field) (s s' : State Counts) (g : Field) → Told fs s → step counts s g.tag g.value ≡ Ok s' → said_to fs g ≡ Ok tt
-said_ok fs s s' g t e = sym (step_said fs s g t) ∙ ap plainly e
+said_ok fs s s' g t e = search rules
 
 said_err : (fs : List Field) (s : State Counts) (g : Field) (c : ImageCause) → Told fs s → step counts s g.tag g.value ≡ Err c → said_to fs g ≡ Err c
 said_err fs s g c t e = sym (step_said fs s g t) ∙ ap plainly e
 
 -- and the answer, told without its value
 plainly_err : {X : Type 0} (r : Result X ImageCause) (c : ImageCause) → plainly r ≡ Err c → r ≡ Err c
-plainly_err (Ok x) c e = let z : ◌≡◌ {A = ℕ} 0 1 = cc in absurd (omega arith)
+plainly_err (Ok x) c e = absurd cc
 plainly_err (Err d) c e = ap Err (same_err e)
 
 plainly_ok : {X : Type 0} (r : Result X ImageCause) → plainly r ≡ Ok tt → (x : X) × (r ≡ Ok x)
 plainly_ok (Ok x) e = (x, refl)
-plainly_ok (Err d) e = let z : ◌≡◌ {A = ℕ} 0 1 = cc in absurd (omega arith)
+plainly_ok (Err d) e = absurd cc
 
 module _ (g : Field) (rest : List ℕ) (c : ImageCause) where
   -- what is read from the fields on, and behind them from g on
@@ -98,32 +65,25 @@ module _ (g : Field) (rest : List ℕ) (c : ImageCause) where
   abbrev Reason : List Field → List Field → Type 0
   Reason done before = FineFrom done before × (said_to (done ++ before) g ≡ Err c)
 
-  at_last : (done : List Field) (s : State Counts) (p : ℕ) → Told done s → from [] s p ≡ refused_at c (p + 0) → Reason done []
-  at_last done s p t h = go (step counts s g.tag g.value) refl (sym (ap (read_on counts s p) (items_cons g rest)) ∙ h)
-    where
-      go : (o : Result (State Counts) ImageCause) → step counts s g.tag g.value ≡ o
-          → ◌≡◌ {A = Result Described ImageFault} (elim o [ Ok s' ↦ read_on counts s' (p + (3 + length g.value)) (items 0 rest) | Err d ↦ refused_at d p ]) (refused_at c (p + 0)) → Reason done []
-      go (Err d) e w =
-          let same : d ≡ c = ap (λ (f : ImageFault). f.cause) (same_err w) in
-          (tt, ap (λ fs. said_to fs g) (append-nil done) ∙ said_err done s g d t e ∙ ap Err same)
-      go (Ok s') e w = absurd (omega (arith, not_before counts (items 0 rest) s' (p + (3 + length g.value)) (record { cause = c; place = p + 0 }) w))
-
   reason : (before done : List Field) (s : State Counts) (p : ℕ) → Told done s → from before s p ≡ refused_at c (p + length (encoding before)) → Reason done before
-  reason [] done s p t h = at_last done s p t h
+  reason [] done s p t h =
+      let is = items 0 rest in
+      let first = sym (ap (read_on counts s p) (items_cons g rest)) ∙ h in
+      by_answer (step counts s g.tag g.value)
+      (λ s' e. absurd (omega (arith, not_before counts is s' (p + (3 + length g.value)) (record { cause = c; place = p + 0 }) (sym (reads_on counts s p g.tag g.value is s' e) ∙ first))))
+      (λ d e.
+      let same : d ≡ c = ap (λ (f : ImageFault). f.cause) (same_err (sym (refuses counts s p g.tag g.value is d e) ∙ first)) in
+      (tt, ap (λ fs. said_to fs g) (append-nil done) ∙ said_err done s g d t e ∙ ap Err same))
   reason (f ∷ before) done s p t h =
-      go (λ s' e. reason before (done ++ f ∷ []) s' (p + (3 + length f.value)) (told_next done s s' f t e)) (step counts s f.tag f.value) refl (sym (cons counts f before (bytes_of g ++ rest) s p) ∙ h)
-    where
-      go : ((s' : State Counts) → step counts s f.tag f.value ≡ Ok s' → from before s' (p + (3 + length f.value)) ≡ refused_at c (p + (3 + length f.value) + length (encoding before)) → Reason (done ++ f ∷ []) before)
-          → (o : Result (State Counts) ImageCause) → step counts s f.tag f.value ≡ o
-          → ◌≡◌ {A = Result Described ImageFault} (elim o [ Ok s' ↦ from before s' (p + (3 + length f.value)) | Err d ↦ refused_at d p ]) (refused_at c (p + length (encoding (f ∷ before)))) → Reason done (f ∷ before)
-      go next (Err d) e w =
-          let l = length-append (bytes_of f) (encoding before) in
-          absurd (omega (arith, ap (λ (x : ImageFault). x.place) (same_err w)))
-      go next (Ok s') e w =
-          let l = length-append (bytes_of f) (encoding before) in
-          let n : p + length (encoding (f ∷ before)) ≡ p + (3 + length f.value) + length (encoding before) = omega arith in
-          let r = next s' e (w ∙ ap (refused_at c) n) in
-          ((said_ok done s s' f t e, r.0), ap (λ fs. said_to fs g) (sym (append_assoc done (f ∷ []) before)) ∙ r.1)
+      let is = items 0 (encoding before ++ (bytes_of g ++ rest)) in
+      let first = sym (cons counts f before (bytes_of g ++ rest) s p) ∙ h in
+      let l = length-append (bytes_of f) (encoding before) in
+      by_answer (step counts s f.tag f.value)
+      (λ s' e.
+      let n : p + length (encoding (f ∷ before)) ≡ p + (3 + length f.value) + length (encoding before) = omega arith in
+      let r = reason before (done ++ f ∷ []) s' (p + (3 + length f.value)) (told_next done s s' f t e) (sym (reads_on counts s p f.tag f.value is s' e) ∙ first ∙ ap (refused_at c) n) in
+      ((said_ok done s s' f t e, r.0), ap (λ fs. said_to fs g) (sym (append_assoc done (f ∷ []) before)) ∙ r.1))
+      (λ d e. absurd (omega (arith, ap (λ (x : ImageFault). x.place) (same_err (sym (refuses counts s p f.tag f.value is d e) ∙ first)))))
 
 -- fields in which nothing is wrong are read to their end
 through_fine : (bs : List ℕ) (before done : List Field) (s : State Counts) (p : ℕ) → Told done s → FineFrom done before
@@ -139,14 +99,14 @@ through_fine bs (f ∷ before) done s p t r =
       w.0,
       subst (λ fs. Told fs w.0) (append_assoc done (f ∷ []) before) w.1,
       cons counts f before bs s p
-          ∙ ap (λ (o : Result (State Counts) ImageCause). elim o [ Ok s' ↦ read_on counts s' (p + (3 + length f.value)) (items 0 (encoding before ++ bs)) | Err d ↦ refused_at d p ]) x.1
+          ∙ reads_on counts s p f.tag f.value (items 0 (encoding before ++ bs)) x.0 x.1
           ∙ w.2
           ∙ ap (λ q. read_on counts w.0 q (items 0 bs)) n,
     )
 
 module _ (before : List Field) (bs : List ℕ) (few : length (encoding before ++ bs) ≤ max_image) where
   within : outcome (encoding before ++ bs) ≡ read_on counts (start (record {})) 0 (items 0 (encoding before ++ bs))
-  within = cond-false (ltb max_image (length (encoding before ++ bs))) _ _ (le-ltb _ _ few)
+  within = grind (arith, nat_tests)
 
   -- what comes of the image, from the bytes behind the fields on
   behind : Fine before → (s : State Counts) × Told before s × (outcome (encoding before ++ bs) ≡ read_on counts s (length (encoding before)) (items 0 bs))
@@ -156,8 +116,7 @@ module _ (before : List Field) (bs : List ℕ) (few : length (encoding before ++
       (w.0, w.1, within ∙ w.2 ∙ ap (λ q. read_on counts w.0 q (items 0 bs)) n)
 
   pub cut_refused : Fine before → 1 ≤ length bs → item bs ≡ short → outcome (encoding before ++ bs) ≡ refused_at CutShort (length (encoding before))
-  cut_refused fine some cut =
-      let w = behind fine in w.2 ∙ ap (read_on counts w.0 (length (encoding before))) (items_short bs 0 some (sym cut))
+  cut_refused fine some cut = grind (arith, behind, items_short)
 
 module _ (before : List Field) (g : Field) (rest : List ℕ) (c : ImageCause) (few : length (encoding before ++ (bytes_of g ++ rest)) ≤ max_image) where
   pub refused_for : outcome (encoding before ++ (bytes_of g ++ rest)) ≡ refused_at c (length (encoding before)) → Fine before × (said_to before g ≡ Err c)
@@ -171,13 +130,13 @@ module _ (before : List Field) (g : Field) (rest : List ℕ) (c : ImageCause) (f
       let s = w.0 in let p = length (encoding before) in
       w.2
       ∙ ap (read_on counts s p) (items_cons g rest)
-      ∙ ap (λ (o : Result (State Counts) ImageCause). elim o [ Ok s' ↦ read_on counts s' (p + (3 + length g.value)) (items 0 rest) | Err d ↦ refused_at d p ]) (plainly_err (step counts s g.tag g.value) c (step_said before s g w.1 ∙ said))
+      ∙ refuses counts s p g.tag g.value (items 0 rest) c (plainly_err (step counts s g.tag g.value) c (step_said before s g w.1 ∙ said))
 
 -- an end without a name
 nameless : (fs : List Field) (s : State Counts) (p : ℕ) → Told fs s → tagged 2 fs ≡ [] → finished s p ≡ refused_at NoName p
 nameless fs (start u) p t none = refl
-nameless fs (naming u k names) p t none = ap (λ ns. finished (naming u k ns) p) (sym t.names_are ∙ none)
-nameless fs (noting u b m) p t none = absurd (omega (arith, t.named, ap length none))
+nameless fs (naming u k names) p t none = cc
+nameless fs (noting u b m) p t none = grind (arith, nat_tests)
 
 pub nameless_refused : (before : List Field) → length (encoding before) ≤ max_image → Fine before → tagged 2 before ≡ [] → outcome (encoding before) ≡ refused_at NoName (length (encoding before))
 nameless_refused before few fine none =

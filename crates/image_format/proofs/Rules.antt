@@ -1,40 +1,31 @@
 -- The rules on names, by tests and in words. Assumes nothing.
-use Rattle.std.proofs.Common.{◌≡◌, ℕ, zero, suc, ◌<◌, Bool, true, false, cond, not, ◌&&◌, leb, List, [], ◌∷◌, ◌++◌, length, get_or, Ok, Err, Result, sym, refl, ◌∙◌, ⊎_elim, arith}
+use Rattle.std.proofs.Common.{◌≡◌, ℕ, zero, suc, ◌<◌, Bool, true, false, cond, not, List, [], ◌∷◌, ◌++◌, length, get_or, All, Ok, Err, Result, sym, refl, ◌∙◌, ⊎_elim, arith, rules}
 use Rattle.std.specs.Str.{bytes_eq}
-use Rattle.std.specs.List.{AllByRecursion}
+use Rattle.std.proofs.lemmas.List.Sums.{list_all-from_AllPass}
 use Rattle.std.proofs.lemmas.List.{length_push, get_or_push, get_or_append_left, get_or_at, length-append}
 use Rattle.std.proofs.lemmas.Slice.Eq.{bytes_eq-Decides}
-use Rattle.std.proofs.lemmas.Bool.{and_parts, and_from, or_parts, or_from, both_ways, cases_Bool, cases_lt, leb-true, le-leb}
-use Rattle.image_format.specs.Names.{printable, given}
-use Rattle.image_format.specs.Names.{Apart, Printable}
+use Rattle.std.proofs.lemmas.Bool.{or_parts, or_from, cases_Bool}
+use Rattle.image_format.specs.Names.{Apart, Printable, printable, given}
+
+-- an answer is a value or a fault
+pub by_answer : {A E P : Type 0} (r : Result A E) → ((x : A) → r ≡ Ok x → P) → ((c : E) → r ≡ Err c → P) → P
+by_answer (Ok x) at_ok at_err = at_ok x refl
+by_answer (Err c) at_ok at_err = at_err c refl
 
 -- a check that is passed
 pub guard : {A E : Type 0} (b : Bool) (o : Result A E) (c : E) (x : A) → cond b (Err c) o ≡ Ok x → (b ≡ false) × (o ≡ Ok x)
-guard true o c x h = let z : ◌≡◌ {A = ℕ} 0 1 = cc in absurd (omega arith)
-guard false o c x h = (refl, h)
-
-pub guard_not : {A E : Type 0} (b : Bool) (o : Result A E) (c : E) (x : A) → cond (not b) (Err c) o ≡ Ok x → (b ≡ true) × (o ≡ Ok x)
-guard_not true o c x h = (refl, h)
-guard_not false o c x h = let z : ◌≡◌ {A = ℕ} 0 1 = cc in absurd (omega arith)
+guard b o c x h = grind arith
 
 -- and so leaves the answer to the next
 pub pass_not : {A : Type 0} (b : Bool) (x y : A) → b ≡ true → cond (not b) x y ≡ y
-pass_not true x y h = refl
-pass_not false x y h = let z : ◌≡◌ {A = ℕ} 0 1 = cc in absurd (omega arith)
+pass_not b x y h = grind arith
 
-pub all_printable : (v : List ℕ) → printable v ≡ true → AllByRecursion Printable v
-all_printable [] h = tt
-all_printable (b ∷ bs) h =
-    let p = and_parts (leb 32 b && leb b 126) (printable bs) h in let q = and_parts (leb 32 b) (leb b 126) p.0 in
-    ((leb-true _ _ q.0, leb-true _ _ q.1), all_printable bs p.1)
-
-pub printable_all : (v : List ℕ) → AllByRecursion Printable v → printable v ≡ true
-printable_all [] h = refl
-printable_all (b ∷ bs) h = and_from _ _ (and_from _ _ (le-leb _ _ h.0.0) (le-leb _ _ h.0.1)) (printable_all bs h.1)
+pub printable_all : (v : List ℕ) → All Printable v → printable v ≡ true
+printable_all v h = search (rules, list_all-from_AllPass)
 
 pub not_given : (v : List ℕ) (names : List (List ℕ)) → given v names ≡ false → (i : ℕ) → i < length names → get_or names i [] ≡ v → ⊥
 not_given v [] g i l e = omega arith
-not_given v (n ∷ ns) g zero l e = both_ways (bytes_eq n v) (or_parts (bytes_eq n v) (given v ns) g).0 ((bytes_eq-Decides n v).1 e)
+not_given v (n ∷ ns) g zero l e = search rules
 not_given v (n ∷ ns) g (suc i) l e = not_given v ns (or_parts (bytes_eq n v) (given v ns) g).1 i (omega arith) e
 
 pub given_not : (v : List ℕ) (names : List (List ℕ)) → ((i : ℕ) → i < length names → get_or names i [] ≡ v → ⊥) → given v names ≡ false
@@ -45,13 +36,7 @@ given_not v (n ∷ ns) h =
     (given_not v ns (λ i l e. h (suc i) (omega arith) e))
 
 pub apart_push : (v : List ℕ) (names : List (List ℕ)) → Apart names → given v names ≡ false → Apart (names ++ v ∷ [])
-apart_push v names a g i j l h e =
-    let n = length_push names v in
-    let ei = get_or_append_left names (v ∷ []) [] i (omega arith) in
-    ⊎_elim
-    (λ lt. a i j l lt (sym ei ∙ e ∙ get_or_append_left names (v ∷ []) [] j lt))
-    (λ ge. not_given v names g i (omega arith) (sym ei ∙ e ∙ get_or_push names v [] j (omega arith)))
-    (cases_lt j (length names))
+apart_push v names a g i j l h e = grind (arith, length_push, get_or_append_left, not_given, get_or_push)
 
 pub apart_here : (v : List ℕ) (names more : List (List ℕ)) → Apart (names ++ v ∷ more) → given v names ≡ false
 apart_here v names more a =

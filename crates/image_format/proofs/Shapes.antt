@@ -1,6 +1,5 @@
 -- The fields of an image that is accepted, for any kind of image: a limit, names, and values that the kind takes.
-use Rattle.std.proofs.Common.{◌≡◌, ℕ, ◌≤◌, List, [], ◌∷◌, ◌++◌, map, length, Ok}
-use Rattle.std.specs.List.{AllByRecursion}
+use Rattle.std.proofs.Common.{◌≡◌, ℕ, ◌≤◌, List, [], ◌∷◌, ◌++◌, map, length, All, Ok}
 use Rattle.sheet.specs.Books.{Book, max_alarms, max_limit}
 use Rattle.image_format.specs.Fields.{Field}
 use Rattle.image_format.specs.Names.{Name, Apart}
@@ -9,7 +8,7 @@ use Rattle.image_format.specs.Contents.{limit_field, name_field}
 
 -- names that may stand in one image
 abbrev pub Good : List (List ℕ) → Type 0
-Good names = (length names ≤ max_alarms) × AllByRecursion Name names × Apart names
+Good names = (length names ≤ max_alarms) × All Name names × Apart names
 
 module _ {S : Type 0} (K : Kind S) where
   abbrev pub value_field : List ℕ → Field

@@ -1,7 +1,6 @@
 -- The image of counts: its values are notes, and its notes are values. Assumes nothing.
-use Rattle.std.proofs.Common.{◌≡◌, ℕ, ◌+◌, ◌*◌, ◌/◌, ◌%◌, ◌<◌, ◌≤◌, cond, List, [], ◌∷◌, ◌++◌, map, length, get_or, is_some, None, Ok, Option, sym, refl, ap, ◌∙◌, subst, arith}
+use Rattle.std.proofs.Common.{◌≡◌, ℕ, zero, suc, ◌+◌, ◌*◌, ◌/◌, ◌%◌, ◌≤◌, List, [], ◌∷◌, ◌++◌, map, length, get_or, None, Ok, Option, sym, refl, ap, ◌∙◌, subst, arith}
 use Rattle.std.specs.List.{AllByRecursion}
-use Rattle.std.proofs.ByRecursion.{All-from_get_or}
 use Rattle.std.proofs.lemmas.List.{length-map}
 use Rattle.std.proofs.lemmas.Bool.Decides.{nat_tests}
 use Rattle.sheet.specs.Books.{Book, new_book, max_alarms, max_limit}
@@ -10,7 +9,7 @@ use Rattle.sheet.specs.Causes.{checked}
 use Rattle.sheet.specs.declared.fault.Fault.{Fault}
 use Rattle.sheet.proofs.Causes.{checked_free, checked_value, open_ok}
 use Rattle.image_format.specs.declared.kinds.Counts.{Counts}
-use Rattle.image_format.specs.Fields.{Field, Bytes, bytes_of, encoding}
+use Rattle.image_format.specs.Fields.{Field, Bytes, encoding}
 use Rattle.image_format.specs.Images.{Described, opened}
 use Rattle.image_format.specs.Counts.{counts, note_in, outcome}
 use Rattle.image_format.specs.Contents.{Note, AllAccepted, fields, limit_field, name_field, note_call, note_field}
@@ -18,43 +17,45 @@ use Rattle.image_format.specs.Laws.{ComesTo}
 use Rattle.image_format.proofs.Shapes.{Fed, value_field}
 use Rattle.image_format.proofs.Exactly.{accepted_right, right_accepted}
 
-abbrev Byte : ℕ → Type 0
-Byte x = x < 256
+bytes_left : (xs ys : List ℕ) → Bytes (xs ++ ys) → Bytes xs
+bytes_left [] ys h i = omega arith
+bytes_left (x ∷ xs) ys h zero = h 0
+bytes_left (x ∷ xs) ys h (suc i) = bytes_left xs ys (λ j. h (suc j)) i
 
-all_right : (xs ys : List ℕ) → AllByRecursion Byte (xs ++ ys) → AllByRecursion Byte ys
-all_right [] ys h = h
-all_right (x ∷ xs) ys h = all_right xs ys h.1
+bytes_right : (xs ys : List ℕ) → Bytes (xs ++ ys) → Bytes ys
+bytes_right [] ys h = h
+bytes_right (x ∷ xs) ys h = bytes_right xs ys (λ j. h (suc j))
 
-all_left : (xs ys : List ℕ) → AllByRecursion Byte (xs ++ ys) → AllByRecursion Byte xs
-all_left [] ys h = tt
-all_left (x ∷ xs) ys h = (h.0, all_left xs ys h.1)
+-- the values of an image's fields are bytes
+abbrev ByteValues : List Field → Type 0
+ByteValues fs = AllByRecursion (λ f. Bytes f.value) fs
 
--- the bytes of an image are those of its values
-value_bytes : (fs : List Field) → AllByRecursion Byte (encoding fs) → AllByRecursion (λ f. AllByRecursion Byte f.value) fs
-value_bytes [] h = tt
-value_bytes (f ∷ fs) h =
-    ((all_left (bytes_of f) (encoding fs) h).1.1.1, value_bytes fs (all_right (bytes_of f) (encoding fs) h))
+byte_values : (fs : List Field) → Bytes (encoding fs) → ByteValues fs
+byte_values [] h = tt
+byte_values (f ∷ fs) h =
+    let rest : Bytes (f.value ++ encoding fs) = λ i. h (suc (suc (suc i))) in
+    (bytes_left f.value (encoding fs) rest, byte_values fs (bytes_right f.value (encoding fs) rest))
 
-behind_names : (P : Field → Type 0) (names : List (List ℕ)) (fs : List Field) → AllByRecursion P (map name_field names ++ fs) → AllByRecursion P fs
-behind_names P [] fs h = h
-behind_names P (v ∷ vs) fs h = behind_names P vs fs h.1
+behind_names : (names : List (List ℕ)) (fs : List Field) → ByteValues (map name_field names ++ fs) → ByteValues fs
+behind_names [] fs h = h
+behind_names (v ∷ vs) fs h = behind_names vs fs h.1
 
 pub next_accepted : (b : Book) (c : Call) → refusal b c ≡ None → next b c ≡ accepted b c
-next_accepted b c e = ap (λ (o : Option Fault). cond (is_some o) b (accepted b c)) e
+next_accepted b c e = cc
 
 -- the note in a value
 abbrev note_of : List ℕ → Note
 note_of v = record { first = get_or v 0 0; second = get_or v 1 0; count = get_or v 2 0 * 256 + get_or v 3 0 }
 
-note_again : (v : List ℕ) → length v ≡ 4 → AllByRecursion Byte v → value_field counts v ≡ note_field (note_of v)
+note_again : (v : List ℕ) → length v ≡ 4 → Bytes v → value_field counts v ≡ note_field (note_of v)
 note_again [] n h = absurd (omega arith)
 note_again (a ∷ []) n h = absurd (omega arith)
 note_again (a ∷ b ∷ []) n h = absurd (omega arith)
 note_again (a ∷ b ∷ c ∷ []) n h = absurd (omega arith)
 note_again (a ∷ b ∷ c ∷ d ∷ e ∷ v) n h = absurd (omega arith)
 note_again (a ∷ b ∷ c ∷ d ∷ []) n h =
-    let high : (c * 256 + d) / 256 ≡ c = omega (arith, h.1.1.1.0) in
-    let low : (c * 256 + d) % 256 ≡ d = omega (arith, h.1.1.1.0) in
+    let high : (c * 256 + d) / 256 ≡ c = omega (arith, h 3) in
+    let low : (c * 256 + d) % 256 ≡ d = omega (arith, h 3) in
     sym (ap (λ x. record { tag = 3; value = a ∷ b ∷ x ∷ ((c * 256 + d) % 256) ∷ [] }) high ∙ ap (λ x. record { tag = 3; value = a ∷ b ∷ c ∷ x ∷ [] }) low)
 
 -- values that are taken in turn are notes that are accepted in turn
@@ -65,8 +66,8 @@ record NotesIn (b : Book) (values : List (List ℕ)) (b' : Book) : Type 0 where
   left : b' ≡ after b (map note_call notes)
   count : length notes ≡ length values
 
-notes_in : (values : List (List ℕ)) (s : Counts) (b b' : Book) → AllByRecursion (λ f. AllByRecursion Byte f.value) (map (value_field counts) values) → Fed counts s b values b' → NotesIn b values b'
-notes_in [] s b b' small h = record { notes = []; same = refl; accepted = tt; left = sym h; count = refl }
+notes_in : (values : List (List ℕ)) (s : Counts) (b b' : Book) → ByteValues (map (value_field counts) values) → Fed counts s b values b' → NotesIn b values b'
+notes_in [] s b b' small h = grind (arith, nat_tests)
 notes_in (v ∷ vs) s b b' small h =
     let p = h.1.0 in let call = note_in v in
     let free = checked_free (refusal b call) (s, accepted b call) p h.1.1 in
@@ -87,9 +88,8 @@ pub accepted_holds : (image : List ℕ) (x : Described) → Bytes image → outc
 accepted_holds image x small h =
     let r = accepted_right counts (omega arith) (record {}) image small x h in
     let s = r.shape in
-    let all = subst (λ bs. AllByRecursion Byte bs) r.bytes (All-from_get_or Byte image 0 (λ i l. small i)) in
-    let each = subst (λ fs. AllByRecursion (λ f. AllByRecursion Byte f.value) fs) s.same (value_bytes r.fields all) in
-    let n = notes_in s.values (record {}) (opened (length s.names) s.limit) x.book (behind_names (λ f. AllByRecursion Byte f.value) s.names _ each.1) s.fed in
+    let each = subst ByteValues s.same (byte_values r.fields (subst Bytes r.bytes small)) in
+    let n = notes_in s.values (record {}) (opened (length s.names) s.limit) x.book (behind_names s.names _ each.1) s.fed in
     let opens_free = open_free (length s.names) s.limit s.some s.good.0 s.low s.high in
     let book = next_accepted new_book (opens (length s.names) s.limit) opens_free in
     record {

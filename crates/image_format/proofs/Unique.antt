@@ -1,6 +1,7 @@
 -- An image holds at most one content. Assumes nothing.
-use Rattle.std.proofs.Common.{◌≡◌, ℕ, List, [], ◌∷◌, ◌++◌, map, get_or, sym, refl, ap, ◌∙◌, arith}
-use Rattle.image_format.specs.Contents.{Note, Content, Holds, fields, limit_field, name_field, note_field}
+use Rattle.std.proofs.Common.{◌≡◌, ℕ, List, [], ◌∷◌, ◌++◌, map, sym, refl, ap, ◌∙◌, arith}
+use Rattle.std.proofs.lemmas.Bool.Decides.{nat_tests}
+use Rattle.image_format.specs.Contents.{Note, Content, Holds, name_field, note_field}
 use Rattle.image_format.specs.Fields.{Field, Item, whole, short, encoding, items}
 use Rattle.image_format.proofs.Whole.{item_of, items_of}
 
@@ -11,8 +12,8 @@ field_of short = record { tag = 0; value = [] }
 same_fields : (fs gs : List Field) → map item_of fs ≡ map item_of gs → fs ≡ gs
 unfolding field_of
 same_fields [] [] e = refl
-same_fields [] (g ∷ gs) e = let z : ◌≡◌ {A = ℕ} 0 1 = cc in absurd (omega arith)
-same_fields (f ∷ fs) [] e = let z : ◌≡◌ {A = ℕ} 0 1 = cc in absurd (omega arith)
+same_fields [] (g ∷ gs) e = absurd cc
+same_fields (f ∷ fs) [] e = absurd cc
 same_fields (f ∷ fs) (g ∷ gs) e =
     let first : item_of f ≡ item_of g = cc in
     let rest : map item_of fs ≡ map item_of gs = cc in
@@ -23,33 +24,24 @@ pub same_encoding : (fs gs : List Field) → encoding fs ≡ encoding gs → fs 
 same_encoding fs gs e = same_fields fs gs (sym (items_of fs) ∙ ap (items 0) e ∙ items_of gs)
 
 same_note : (x y : Note) → note_field x ≡ note_field y → x ≡ y
-same_note x y e =
-    let byte : (i : ℕ) → get_or (note_field x).value i 0 ≡ get_or (note_field y).value i 0 = λ i. ap (λ (f : Field). get_or f.value i 0) e in
-    let n : x.count ≡ y.count = omega (arith, byte 2, byte 3) in
-    ap (λ a. record { first = a; second = x.second; count = x.count }) (byte 0)
-    ∙ ap (λ a. record { first = y.first; second = a; count = x.count }) (byte 1)
-    ∙ ap (λ a. record { first = y.first; second = y.second; count = a }) n
+same_note x y e = grind (arith, nat_tests)
 
 same_notes : (xs ys : List Note) → map note_field xs ≡ map note_field ys → xs ≡ ys
 same_notes [] [] e = refl
-same_notes [] (y ∷ ys) e = let z : ◌≡◌ {A = ℕ} 0 1 = cc in absurd (omega arith)
-same_notes (x ∷ xs) [] e = let z : ◌≡◌ {A = ℕ} 0 1 = cc in absurd (omega arith)
+same_notes [] (y ∷ ys) e = absurd cc
+same_notes (x ∷ xs) [] e = absurd cc
 same_notes (x ∷ xs) (y ∷ ys) e =
     let first : note_field x ≡ note_field y = cc in
     let rest : map note_field xs ≡ map note_field ys = cc in
     ap (λ a. a ∷ xs) (same_note x y first) ∙ ap (λ bs. y ∷ bs) (same_notes xs ys rest)
 
--- a name's field is no note's
-apart : (v : List ℕ) (x : Note) → name_field v ≡ note_field x → ⊥
-apart v x e = omega (arith, ap (λ (f : Field). f.tag) e)
-
 -- so the names end where the first note stands
 same_names : (vs ws : List (List ℕ)) (xs ys : List Note) → map name_field vs ++ map note_field xs ≡ map name_field ws ++ map note_field ys → (vs ≡ ws) × (xs ≡ ys)
 same_names [] [] xs ys e = (refl, same_notes xs ys e)
-same_names [] (w ∷ ws) [] ys e = let z : ◌≡◌ {A = ℕ} 0 1 = cc in absurd (omega arith)
-same_names [] (w ∷ ws) (x ∷ xs) ys e = let head : name_field w ≡ note_field x = cc in absurd (apart w x head)
-same_names (v ∷ vs) [] xs [] e = let z : ◌≡◌ {A = ℕ} 0 1 = cc in absurd (omega arith)
-same_names (v ∷ vs) [] xs (y ∷ ys) e = let head : name_field v ≡ note_field y = cc in absurd (apart v y head)
+same_names [] (w ∷ ws) [] ys e = absurd cc
+same_names [] (w ∷ ws) (x ∷ xs) ys e = grind (arith, nat_tests)
+same_names (v ∷ vs) [] xs [] e = absurd cc
+same_names (v ∷ vs) [] xs (y ∷ ys) e = grind (arith, nat_tests)
 same_names (v ∷ vs) (w ∷ ws) xs ys e =
     let head : name_field v ≡ name_field w = cc in
     let rest : map name_field vs ++ map note_field xs ≡ map name_field ws ++ map note_field ys = cc in
@@ -57,11 +49,4 @@ same_names (v ∷ vs) (w ∷ ws) xs ys e =
     (ap (λ (f : Field). f.value ∷ vs) head ∙ ap (λ us. w ∷ us) r.0, r.1)
 
 pub content_unique : (image : List ℕ) (c d : Content) → Holds image c → Holds image d → c ≡ d
-content_unique image c d h g =
-    let e = same_encoding (fields c) (fields d) (sym h.bytes ∙ g.bytes) in
-    let head : limit_field c.limit ≡ limit_field d.limit = cc in
-    let rest : map name_field c.names ++ map note_field c.notes ≡ map name_field d.names ++ map note_field d.notes = cc in
-    let r = same_names c.names d.names c.notes d.notes rest in
-    ap (λ a. record { limit = a; names = c.names; notes = c.notes }) (ap (λ (f : Field). get_or f.value 0 0) head)
-    ∙ ap (λ a. record { limit = d.limit; names = a; notes = c.notes }) r.0
-    ∙ ap (λ a. record { limit = d.limit; names = d.names; notes = a }) r.1
+content_unique image c d h g = grind (arith, same_encoding, same_names)

@@ -1,12 +1,15 @@
 -- An image that is read to its end is its fields, one behind another, and they run through. Assumes nothing.
 use Rattle.std.proofs.Common.{◌≡◌, ℕ, zero, suc, ◌+◌, ◌*◌, ◌/◌, ◌%◌, ◌<◌, leb, List, [], ◌∷◌, ◌++◌, map, length, take, drop, Ok, Err, Result, sym, refl, ap, ◌∙◌, ⊎_elim, arith}
-use Rattle.std.proofs.lemmas.List.{drop_all, take-append-drop, length-take, drop-drop, take_at, drop_at, length-append}
-use Rattle.std.proofs.lemmas.Bool.{cond-true, cond-false, le-leb, leb-true, cases_Bool}
+use Rattle.std.proofs.lemmas.List.{drop_all, take-append-drop, length-take, drop-drop, drop_at}
+use Rattle.std.proofs.lemmas.Bool.{cond-true, cond-false, leb-true, cases_Bool}
+use Rattle.std.proofs.lemmas.Grind.{common_steps}
+use Rattle.std.proofs.lemmas.Bool.Decides.{nat_tests}
 use Rattle.image_format.specs.declared.fault.ImageCause.{ImageCause}
 use Rattle.image_format.specs.declared.fault.ImageFault.{ImageFault}
 use Rattle.image_format.specs.Fields.{Field, Bytes, bytes_of, encoding, Item, whole, short, item, items, value_of}
 use Rattle.image_format.specs.Images.{Kind, State, Described, step, refused_at, finished, read_on}
-use Rattle.image_format.proofs.Items.{item_fits, items_skip}
+use Rattle.image_format.proofs.Items.{by_item, items_cut, items_first, items_skip}
+use Rattle.image_format.proofs.Rules.{by_answer}
 
 abbrev pub item_of : Field → Item
 item_of f = whole f.tag f.value
@@ -17,9 +20,6 @@ high_byte h l b = omega arith
 pub low_byte : (h l : ℕ) → l < 256 → (h * 256 + l) % 256 ≡ l
 low_byte h l b = omega arith
 
-pub both_bytes : (n : ℕ) → (n / 256) * 256 + n % 256 ≡ n
-both_bytes n = omega arith
-
 tag_of : Item → ℕ
 tag_of (whole t v) = t
 tag_of short = 0
@@ -27,9 +27,9 @@ tag_of short = 0
 -- bytes that begin with a whole field are that field and the rest
 pub item_bytes : (t : ℕ) (v bs : List ℕ) → Bytes bs → whole t v ≡ item bs → bs ≡ bytes_of (record { tag = t; value = v }) ++ drop (3 + length v) bs
 unfolding tag_of
-item_bytes t v [] b e = absurd (omega (arith, item_fits t v [] e))
-item_bytes t v (a ∷ []) b e = absurd (omega (arith, item_fits t v (a ∷ []) e))
-item_bytes t v (a ∷ h ∷ []) b e = absurd (omega (arith, item_fits t v (a ∷ h ∷ []) e))
+item_bytes t v [] b e = cc
+item_bytes t v (a ∷ []) b e = cc
+item_bytes t v (a ∷ h ∷ []) b e = grind (arith, nat_tests)
 item_bytes t v (a ∷ h ∷ l ∷ bs) b e =
     ⊎_elim
     (λ y.
@@ -45,23 +45,15 @@ item_bytes t v (a ∷ h ∷ l ∷ bs) b e =
     cc)
     (λ y.
     let w : whole t v ≡ short = e ∙ cond-false (leb (3 + (h * 256 + l)) (length (a ∷ h ∷ l ∷ bs))) _ _ y in
-    let z : ◌≡◌ {A = ℕ} 0 1 = cc in absurd (omega arith))
+    absurd cc)
     (cases_Bool (leb (3 + (h * 256 + l)) (length (a ∷ h ∷ l ∷ bs))))
 
 -- fields that stand one behind another are read as they are
 pub whole_item : (t : ℕ) (v bs : List ℕ) → item (bytes_of (record { tag = t; value = v }) ++ bs) ≡ whole t v
-whole_item t v bs =
-    let n = both_bytes (length v) in let k = length-append v bs in
-    cond-true (leb (3 + ((length v / 256) * 256 + length v % 256)) (length (bytes_of (record { tag = t; value = v }) ++ bs))) (whole t (take ((length v / 256) * 256 + length v % 256) (v ++ bs))) short (le-leb _ _ (omega arith))
-    ∙ ap (whole t) (take_at v bs ((length v / 256) * 256 + length v % 256) (sym n))
+whole_item t v bs = grind (arith, nat_tests, common_steps)
 
 pub items_cons : (f : Field) (bs : List ℕ) → items 0 (bytes_of f ++ bs) ≡ item_of f ∷ items 0 bs
-items_cons f bs =
-    let v = f.value in
-    ap (λ i. elim i [ whole t w ↦ whole t w ∷ items (2 + length w) ((length v / 256) ∷ (length v % 256) ∷ (v ++ bs)) | short ↦ short ∷ [] ]) (whole_item f.tag v bs)
-    ∙ ap (λ is. item_of f ∷ is)
-    (items_skip (2 + length v) ((length v / 256) ∷ (length v % 256) ∷ (v ++ bs))
-    ∙ ap (items 0) (sym (drop-drop (length v) 2 ((length v / 256) ∷ (length v % 256) ∷ (v ++ bs))) ∙ drop_at v bs (length v) refl))
+items_cons f bs = grind (arith, whole_item, items_skip, drop-drop, drop_at)
 
 pub items_of : (fs : List Field) → items 0 (encoding fs) ≡ map item_of fs
 items_of [] = refl
@@ -73,6 +65,26 @@ module _ {S : Type 0} (K : Kind S) where
   runs s [] = Ok s
   runs s (f ∷ fs) = elim (step K s f.tag f.value) [ Ok s' ↦ runs s' fs | Err c ↦ Err c ]
 
+  -- a field that is taken, in such a run and in a reading
+  pub runs_on : (s s' : State S) (f : Field) (fs : List Field) → step K s f.tag f.value ≡ Ok s' → runs s (f ∷ fs) ≡ runs s' fs
+  runs_on s s' f fs e = cc
+
+  pub run_ends : (s : State S) (f : Field) (fs : List Field) (c : ImageCause) → step K s f.tag f.value ≡ Err c → runs s (f ∷ fs) ≡ Err c
+  run_ends s f fs c e = cc
+
+  module _ (s : State S) (p t : ℕ) (v : List ℕ) (is : List Item) where
+    answer : Result (State S) ImageCause → Result Described ImageFault
+    answer o = elim o [ Ok s' ↦ read_on K s' (p + (3 + length v)) is | Err c ↦ refused_at c p ]
+
+    pub reads_on : (s' : State S) → step K s t v ≡ Ok s' → read_on K s p (whole t v ∷ is) ≡ read_on K s' (p + (3 + length v)) is
+    unfolding answer
+    reads_on s' e = ap answer e
+
+    -- and one that is refused
+    pub refuses : (c : ImageCause) → step K s t v ≡ Err c → read_on K s p (whole t v ∷ is) ≡ refused_at c p
+    unfolding answer
+    refuses c e = ap answer e
+
   -- the bytes are fields that run through, to an end that makes x
   pub record Through (s : State S) (bs : List ℕ) (x : Described) : Type 0 where
     pub fields : List Field
@@ -82,42 +94,38 @@ module _ {S : Type 0} (K : Kind S) where
     pub place : ℕ
     pub ends : finished last place ≡ Ok x
 
-  module _ (x : Described) where
-    module _ (b : ℕ) (bs : List ℕ) (s : State S) (p : ℕ) (small : Bytes (b ∷ bs))
-        (rest : (k : ℕ) (s' : State S) (p' : ℕ) → read_on K s' p' (items k bs) ≡ Ok x → Through s' (drop k bs) x) where
-      stepped : (t : ℕ) (v : List ℕ) → whole t v ≡ item (b ∷ bs) → (o : Result (State S) ImageCause) → o ≡ step K s t v
-          → ◌≡◌ {A = Result Described ImageFault} (elim o [ Ok s' ↦ read_on K s' (p + (3 + length v)) (items (2 + length v) bs) | Err c ↦ refused_at c p ]) (Ok x) → Through s (b ∷ bs) x
-      stepped t v e (Err c) w h = let z : ◌≡◌ {A = ℕ} 0 1 = cc in absurd (omega arith)
-      stepped t v e (Ok s') w h =
-          let r = rest (2 + length v) s' (p + (3 + length v)) h in
-          let n : 3 + length v ≡ suc (2 + length v) = omega arith in
-          record {
-            fields = record { tag = t; value = v } ∷ r.fields;
-            bytes = item_bytes t v (b ∷ bs) small e ∙ ap (λ d. bytes_of (record { tag = t; value = v }) ++ d) (ap (λ k. drop k (b ∷ bs)) n ∙ r.bytes);
-            last = r.last;
-            run = ap (λ o. elim o [ Ok u ↦ runs u r.fields | Err c ↦ Err c ]) (sym w) ∙ r.run;
-            place = r.place;
-            ends = r.ends;
-          }
-
-      begun : (i : Item) → i ≡ item (b ∷ bs) → read_on K s p (elim i [ whole t v ↦ whole t v ∷ items (2 + length v) bs | short ↦ short ∷ [] ]) ≡ Ok x → Through s (b ∷ bs) x
-      begun short e h = let z : ◌≡◌ {A = ℕ} 0 1 = cc in absurd (omega arith)
-      begun (whole t v) e h = stepped t v e (step K s t v) refl h
-
-    pub through : (bs : List ℕ) (skip : ℕ) (s : State S) (p : ℕ) → Bytes bs → read_on K s p (items skip bs) ≡ Ok x → Through s (drop skip bs) x
-    through [] skip s p small h = record { fields = []; bytes = drop_all skip [] (omega arith); last = s; run = refl; place = p; ends = h }
-    through (b ∷ bs) zero s p small h = begun b bs s p small (λ k s' p' g. through bs k s' p' (λ i. small (suc i)) g) (item (b ∷ bs)) refl h
-    through (b ∷ bs) (suc k) s p small h = through bs k s p (λ i. small (suc i)) h
+  pub through : (x : Described) (bs : List ℕ) (skip : ℕ) (s : State S) (p : ℕ) → Bytes bs → read_on K s p (items skip bs) ≡ Ok x → Through s (drop skip bs) x
+  through x [] skip s p small h = record { fields = []; bytes = drop_all skip [] (omega arith); last = s; run = refl; place = p; ends = h }
+  through x (b ∷ bs) (suc k) s p small h = through x bs k s p (λ i. small (suc i)) h
+  through x (b ∷ bs) zero s p small h =
+      by_item (item (b ∷ bs))
+      (λ t v e.
+      let is = items (2 + length v) bs in
+      let first = sym (ap (read_on K s p) (items_first b bs t v e)) ∙ h in
+      by_answer (step K s t v)
+      (λ s' w.
+      let r = through x bs (2 + length v) s' (p + (3 + length v)) (λ i. small (suc i)) (sym (reads_on s p t v is s' w) ∙ first) in
+      let f : Field = record { tag = t; value = v } in
+      let n : 3 + length v ≡ suc (2 + length v) = omega arith in
+      record {
+        fields = f ∷ r.fields;
+        bytes = item_bytes t v (b ∷ bs) small (sym e) ∙ ap (λ d. bytes_of f ++ d) (ap (λ k. drop k (b ∷ bs)) n ∙ r.bytes);
+        last = r.last;
+        run = runs_on s s' f r.fields w ∙ r.run;
+        place = r.place;
+        ends = r.ends;
+      })
+      (λ c w. let no = sym (refuses s p t v is c w) ∙ first in absurd cc))
+      (λ e. let no = sym (ap (read_on K s p) (items_cut b bs e)) ∙ h in absurd cc)
 
   pub same_ok : {s u : State S} → ◌≡◌ {A = Result (State S) ImageCause} (Ok s) (Ok u) → s ≡ u
   same_ok e = cc
 
-  module _ (last : State S) (fs : List Field) (rest : (s : State S) (p : ℕ) → runs s fs ≡ Ok last → (q : ℕ) × (read_on K s p (map item_of fs) ≡ finished last q)) where
-    ran : (v : List ℕ) (p : ℕ) (o : Result (State S) ImageCause) → ◌≡◌ {A = Result (State S) ImageCause} (elim o [ Ok u ↦ runs u fs | Err c ↦ Err c ]) (Ok last)
-        → (q : ℕ) × ◌≡◌ {A = Result Described ImageFault} (elim o [ Ok s' ↦ read_on K s' (p + (3 + length v)) (map item_of fs) | Err c ↦ refused_at c p ]) (finished last q)
-    ran v p (Err c) h = let z : ◌≡◌ {A = ℕ} 0 1 = cc in absurd (omega arith)
-    ran v p (Ok s') h = rest s' (p + (3 + length v)) h
-
   pub read_run : (last : State S) (fs : List Field) (s : State S) (p : ℕ) → runs s fs ≡ Ok last → (q : ℕ) × (read_on K s p (map item_of fs) ≡ finished last q)
   read_run last [] s p h = (p, ap (λ u. finished u p) (same_ok h))
-  read_run last (f ∷ fs) s p h = ran last fs (λ s' p' g. read_run last fs s' p' g) f.value p (step K s f.tag f.value) h
+  read_run last (f ∷ fs) s p h =
+      by_answer (step K s f.tag f.value)
+      (λ s' w.
+      let r = read_run last fs s' (p + (3 + length f.value)) (sym (runs_on s s' f fs w) ∙ h) in
+      (r.0, reads_on s p f.tag f.value (map item_of fs) s' w ∙ r.1))
+      (λ c w. let no = sym (run_ends s f fs c w) ∙ h in absurd cc)

@@ -1,6 +1,5 @@
 -- Which images are acceptable, by what they hold. Nothing here speaks of reading.
-use Rattle.std.specs.Prelude.{◌≡◌, ℕ, ◌/◌, ◌%◌, ◌≤◌, List, [], ◌∷◌, ◌++◌, map, length, None}
-use Rattle.std.specs.List.{AllByRecursion}
+use Rattle.std.specs.Prelude.{◌≡◌, ℕ, ◌/◌, ◌%◌, ◌≤◌, List, [], ◌∷◌, ◌++◌, map, length, None, All}
 use Rattle.sheet.specs.Books.{Book, new_book}
 use Rattle.sheet.specs.Calls.{Call, opens, notes, after, next, refusal}
 use Rattle.image_format.specs.Fields.{Field, encoding, max_image}
@@ -49,7 +48,7 @@ AllAccepted b (c ∷ cs) = (refusal b c ≡ None) × AllAccepted (next b c) cs
 
 -- what a content must be like. That there are 1 to 64 names and that the limit is 1 to 8 is part of an accepted open.
 pub record Acceptable (c : Content) : Type 0 where
-  pub names : AllByRecursion Name c.names
+  pub names : All Name c.names
   pub apart : Apart c.names
   pub accepted : AllAccepted new_book (calls c)
 

@@ -1,5 +1,5 @@
 -- Fields, the bytes that encode them, and how an image falls into fields.
-use Rattle.std.specs.Prelude.{ℕ, zero, suc, ◌+◌, ◌*◌, ◌/◌, ◌%◌, ◌<◌, cond, List, [], ◌∷◌, length, take, drop, nat_le, slice_index}
+use Rattle.std.specs.Prelude.{ℕ, zero, suc, ◌+◌, ◌*◌, ◌/◌, ◌%◌, ◌<◌, if◌then◌else◌, List, [], ◌∷◌, length, take, drop, nat_le, slice_index}
 use Rattle.std.specs.List.{flat_map}
 
 -- the most bytes of an image
@@ -33,7 +33,7 @@ size bs = slice_index bs 1 * 256 + slice_index bs 2
 
 -- what bytes begin with; a header or a value that runs past the end is cut short
 abbrev pub item : List ℕ → Item
-item bs = cond (nat_le (3 + size bs) (length bs)) (whole (slice_index bs 0) (take (size bs) (drop 3 bs))) short
+item bs = if nat_le (3 + size bs) (length bs) then whole (slice_index bs 0) (take (size bs) (drop 3 bs)) else short
 
 -- all that begins in the bytes, after the first `skip` of them; nothing is read behind a field that is cut short
 abbrev pub items : (skip : ℕ) → List ℕ → List Item

@@ -1,10 +1,9 @@
 -- What comes of an image: the book that its fields describe, or what is wrong first, and where.
-use Rattle.std.specs.Prelude.{ℕ, ◌+◌, Bool, cond, not, ◌&&◌, ◌||◌, List, [], ◌∷◌, ◌++◌, length, Ok, Err, Result, ◌==◌, nat_le, nat_lt, slice_index}
+use Rattle.std.specs.Prelude.{ℕ, ◌+◌, Bool, if◌then◌else◌, not, ◌&&◌, ◌||◌, List, [], ◌∷◌, ◌++◌, length, Ok, Err, Result, ◌==◌, nat_le, nat_lt, slice_index}
 use Rattle.std.specs.Result.{result_map_both}
 use Rattle.sheet.specs.Books.{Book, new_book, max_alarms, max_limit}
 use Rattle.sheet.specs.Calls.{accepted, opens}
-use Rattle.sheet.specs.Causes.{beyond}
-use Rattle.image_format.specs.Causes.{◌if◌, past}
+use Rattle.sheet.specs.Causes.{◌if◌, beyond, past}
 use Rattle.sheet.specs.declared.fault.Fault.{Fault}
 use Rattle.sheet.specs.declared.fault.Fault.TheVariants.{Alarms, Limit}
 use Rattle.image_format.specs.declared.fault.ImageCause.{ImageCause}
@@ -60,7 +59,7 @@ module _ {S : Type 0} where
   -- the end of the image, at a place: there must be a name
   abbrev pub finished : State S → ℕ → Result Described ImageFault
   finished (start s) p = refused_at NoName p
-  finished (naming s k names) p = cond (nat_lt 0 (length names)) (describes (opened (length names) k) 0) (refused_at NoName p)
+  finished (naming s k names) p = if nat_lt 0 (length names) then describes (opened (length names) k) 0 else refused_at NoName p
   finished (noting s b m) p = describes b m
 
 module _ {S : Type 0} (K : Kind S) where
@@ -72,12 +71,12 @@ module _ {S : Type 0} (K : Kind S) where
 
   -- a length that goes with a tag
   abbrev pub fits : (tag length : ℕ) → Bool
-  fits t n = cond (t == 1) (n == 1) (cond (t == 2) (nat_le 1 n && nat_le n max_name) (n == K.size))
+  fits t n = if t == 1 then n == 1 else (if t == 2 then nat_le 1 n && nat_le n max_name else n == K.size)
 
   -- what a value of the right length leads to
   abbrev pub by_value : State S → (tag : ℕ) → List ℕ → Result (State S) ImageCause
   by_value (start s) t v = limited s (slice_index v 0)
-  by_value (naming s k names) t v = cond (t == 2) (named s k names v) (noted 0 (K.taken s (opened (length names) k) v))
+  by_value (naming s k names) t v = if t == 2 then named s k names v else noted 0 (K.taken s (opened (length names) k) v)
   by_value (noting s b m) t v = noted m (K.taken s b v)
 
   -- what a field leads to: it is checked for its tag, then its length, then its value
@@ -92,4 +91,4 @@ module _ {S : Type 0} (K : Kind S) where
 
   -- the whole image
   abbrev pub read : S → List ℕ → Result Described ImageFault
-  read s image = cond (nat_lt max_image (length image)) (refused_at TooLong max_image) (read_on (start s) 0 (items 0 image))
+  read s image = if nat_lt max_image (length image) then refused_at TooLong max_image else read_on (start s) 0 (items 0 image)

@@ -1,4 +1,3 @@
-pub mod Causes
 pub mod Numbers
 pub mod Fields
 pub mod Names

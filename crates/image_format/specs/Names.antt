@@ -1,6 +1,6 @@
 -- Names: which bytes they have, and when two are the same.
-use Rattle.std.specs.Prelude.{◌≡◌, ℕ, ◌<◌, ◌≤◌, Bool, true, false, ◌&&◌, ◌||◌, List, [], ◌∷◌, length, nat_le, slice_index_or}
-use Rattle.std.specs.List.{AllByRecursion}
+use Rattle.std.specs.Prelude.{◌≡◌, ℕ, ◌<◌, ◌≤◌, Bool, ◌&&◌, List, [], length, nat_le, slice_index_or, All}
+use Rattle.std.specs.List.{list_all, list_any}
 use Rattle.std.specs.Str.{bytes_eq}
 
 -- the most bytes of a name
@@ -15,7 +15,7 @@ Printable b = (32 ≤ b) × (b ≤ 126)
 pub record Name (v : List ℕ) : Type 0 where
   pub some : 1 ≤ length v
   pub few : length v ≤ max_name
-  pub bytes : AllByRecursion Printable v
+  pub bytes : All Printable v
 
 -- two names are the same when they have the same bytes
 abbrev pub IsSameName : List ℕ → List ℕ → Type 0
@@ -31,8 +31,7 @@ name_byte b = nat_le 32 b && nat_le b 126
 
 -- it may have all of the bytes,
 abbrev pub printable : List ℕ → Bool
-printable [] = true
-printable (b ∷ bs) = name_byte b && printable bs
+printable bs = list_all name_byte bs
 
 -- two names are the same,
 abbrev pub same_name : List ℕ → List ℕ → Bool
@@ -40,5 +39,4 @@ same_name a b = bytes_eq a b
 
 -- and a name is among those given before.
 abbrev pub given : List ℕ → List (List ℕ) → Bool
-given v [] = false
-given v (name ∷ names) = same_name name v || given v names
+given v names = list_any (λ name. same_name name v) names

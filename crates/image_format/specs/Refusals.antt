@@ -1,10 +1,9 @@
 -- Why a field is refused, by the fields that stand before it. Nothing here speaks of reading.
-use Rattle.std.specs.Prelude.{◌≡◌, ℕ, Bool, cond, not, ◌&&◌, ◌||◌, List, [], ◌∷◌, ◌++◌, map, length, Ok, Result, ◌==◌, nat_le, nat_lt, slice_index, slice_index_or}
+use Rattle.std.specs.Prelude.{◌≡◌, ℕ, Bool, if◌then◌else◌, not, ◌&&◌, ◌||◌, List, [], ◌∷◌, ◌++◌, map, length, Ok, Result, ◌==◌, nat_le, nat_lt, slice_index, slice_index_or}
 use Rattle.std.specs.Result.{result_map_both}
 use Rattle.sheet.specs.Books.{Book, new_book, max_alarms, max_limit}
 use Rattle.sheet.specs.Calls.{after, opens, refusal}
-use Rattle.sheet.specs.Causes.{beyond, checked}
-use Rattle.image_format.specs.Causes.{◌if◌, past}
+use Rattle.sheet.specs.Causes.{◌if◌, beyond, checked, past}
 use Rattle.sheet.specs.declared.fault.Fault.TheVariants.{Alarms, Limit}
 use Rattle.image_format.specs.declared.fault.ImageCause.{ImageCause}
 use Rattle.image_format.specs.declared.fault.ImageCause.TheVariants.{Sheet, Tag, Length, NameByte, SameName}
@@ -15,7 +14,7 @@ use Rattle.image_format.specs.Names.{given, max_name, printable}
 -- the values of the fields with a tag, in their order
 abbrev pub tagged : ℕ → List Field → List (List ℕ)
 tagged t [] = []
-tagged t (f ∷ fs) = cond (f.tag == t) (f.value ∷ tagged t fs) (tagged t fs)
+tagged t (f ∷ fs) = if f.tag == t then f.value ∷ tagged t fs else tagged t fs
 
 -- the limit that the field of tag 1 tells
 abbrev pub limit_in : List Field → ℕ
@@ -33,16 +32,16 @@ may_follow fs t =
 
 -- a length that goes with a tag
 abbrev pub right_length : (tag length : ℕ) → Bool
-right_length t n = cond (t == 1) (n == 1) (cond (t == 2) (nat_le 1 n && nat_le n max_name) (n == 4))
+right_length t n = if t == 1 then n == 1 else (if t == 2 then nat_le 1 n && nat_le n max_name else n == 4)
 
 -- what is wrong with a value behind the fields: with a limit; with a name, by the names before; with a note, what the sheet
 -- says to it at the book so far
 abbrev pub value_checked : List Field → (tag : ℕ) → List ℕ → Result (Unit {0}) ImageCause
 value_checked fs t v =
-    cond (t == 1) (past ((Sheet Limit if beyond max_limit (slice_index v 0)) ∷ []) (Ok tt))
-    (cond (t == 2)
-    (past ((Sheet Alarms if nat_le max_alarms (length (tagged 2 fs))) ∷ (NameByte if not (printable v)) ∷ (SameName if given v (tagged 2 fs)) ∷ []) (Ok tt))
-    (result_map_both (λ x. x) Sheet (checked (refusal (book_in fs) (note_in v)) tt)))
+    if t == 1 then past ((Sheet Limit if beyond max_limit (slice_index v 0)) ∷ []) (Ok tt)
+    else (if t == 2 then
+    past ((Sheet Alarms if nat_le max_alarms (length (tagged 2 fs))) ∷ (NameByte if not (printable v)) ∷ (SameName if given v (tagged 2 fs)) ∷ []) (Ok tt)
+    else result_map_both (λ x. x) Sheet (checked (refusal (book_in fs) (note_in v)) tt))
 
 -- what is said to a field behind others: it is checked for its tag, then its length, then its value
 abbrev pub said_to : List Field → Field → Result (Unit {0}) ImageCause

@@ -1,9 +1,11 @@
 // Why an image is refused, and where.
-ghost use Rattle.std.specs.Prelude.{◌≡◌};
-ghost use Rattle.image_format.specs.Numbers.{cause_number};
+ghost use Rattle.std.specs.Prelude.{◌≡◌, Some};
+ghost use Rattle.image_format.specs.Numbers.{cause_number, refusal_text};
 ghost use Rattle.image_format.specs.declared.fault.ImageCause.TheVariants.{Sheet};
 
 use sheet::Fault;
+use std::error::Error;
+use std::fmt;
 
 #[derive(Clone, Copy, PartialEq, Eq, Debug)]
 pub enum ImageCause {
@@ -32,6 +34,15 @@ pub enum ImageCause {
 pub struct ImageFault {
     pub cause: ImageCause,
     pub place: usize,
+}
+
+impl ImageCause {
+    // The fault that is this cause at a place.
+    pub fn at(self, place: usize) -> ImageFault
+        ensures { result ≡ record { cause = self; place = place } }
+    {
+        ImageFault { cause: self, place }
+    }
 }
 
 // The sheet's fault travels whole inside the image's.
@@ -64,3 +75,14 @@ impl ImageFault {
         }
     }
 }
+
+// `refused 31 at 14`, for one.
+impl fmt::Display for ImageFault {
+    ghost output = { λ fault. Some (refusal_text fault) };
+
+    fn fmt<W: fmt::Write>(&self, f: &mut fmt::Formatter<W>) -> fmt::Result {
+        write!(f, "refused {} at {}", self.number(), self.place)
+    }
+}
+
+impl Error for ImageFault {}

@@ -1,6 +1,8 @@
 -- All alarms on level 0, and what is told of a loaded image. Assumes nothing.
-use Rattle.std.proofs.Common.{◌≡◌, ℕ, zero, suc, ◌≤◌, true, List, length, get_or, replicate, is_ok, Some, None, Ok, Err, Decides, Option, Result, sym, refl, ap, ◌∙◌, arith}
+use Rattle.std.proofs.Common.{◌≡◌, ℕ, ◌≤◌, true, List, length, get_or, replicate, is_ok, Ok, Err, ◌↔◌, Option, Result, sym, ap, ◌∙◌, arith}
+use Rattle.std.specs.Prelude.{IsOk}
 use Rattle.std.specs.Result.{result_unwrap_or}
+use Rattle.std.proofs.lemmas.Grind.{common_steps}
 use Rattle.sheet.specs.Books.{Book, max_alarms}
 use Rattle.sheet.specs.Causes.{checked, first_cause}
 use Rattle.sheet.specs.declared.fault.Fault.{Fault}
@@ -15,17 +17,13 @@ use Rattle.image.proofs.Namings.{described_alarms}
 use Rattle.image_summary.specs.Summaries.{FitsTop, SumsUp, all_on_top, top_cost}
 
 zero_at : (n v : ℕ) → get_or (replicate {A = ℕ} n 0) v 0 ≡ 0
-zero_at zero v = refl
-zero_at (suc n) zero = refl
-zero_at (suc n) (suc v) = zero_at n v
+zero_at n v = grind (arith, common_steps)
 
 -- the value of a check that passed
 passed : (r : Result ℕ Fault) (o : Option Fault) (x : ℕ) → is_ok r ≡ true → r ≡ checked o x → result_unwrap_or r 0 ≡ x
-passed (Ok y) None x ok e = cc
-passed (Ok y) (Some f) x ok e = let z : ◌≡◌ {A = ℕ} 0 1 = cc in absurd (omega arith)
-passed (Err f) o x ok e = let z : ◌≡◌ {A = ℕ} 0 1 = cc in absurd (omega arith)
+passed r o x ok e = grind arith
 
-pub top_priced : (b : Book) (r : Result ℕ Fault) → 1 ≤ b.k → b.n ≤ max_alarms → r ≡ priced b plain all_on_top → Decides (is_ok r) (FitsTop b) → result_unwrap_or r 0 ≡ top_cost b
+pub top_priced : (b : Book) (r : Result ℕ Fault) → 1 ≤ b.k → b.n ≤ max_alarms → r ≡ priced b plain all_on_top → (IsOk r ↔ FitsTop b) → result_unwrap_or r 0 ≡ top_cost b
 top_priced b r some few e placed =
     let ok = placed.1 (few, λ v l. omega (arith, zero_at max_alarms v)) in
     passed r (first_cause (price_causes b all_on_top)) (cost b plain (listed all_on_top)) ok e ∙ ap (cost b plain) (λ i v. zero_at max_alarms v i)
@@ -34,7 +32,7 @@ top_priced b r some few e placed =
 pub sums_up : (image : List ℕ) (b b' : Book) (r : Result ℕ ImageFault) → Loads image b r b' → (m : ℕ) → r ≡ Ok m
     → SumsUp image (Ok (record { alarms = b'.n; rows = length b'.rows; notes = m; cost = top_cost b' }))
 sums_up image b b' r l m e = record {
-  refused = λ f o. let w : ◌≡◌ {A = Result ℕ ImageFault} (Ok m) (Err f) = sym e ∙ refused_is image b b' r l f o in let z : ◌≡◌ {A = ℕ} 0 1 = cc in absurd (omega arith);
+  refused = λ f o. let w : ◌≡◌ {A = Result ℕ ImageFault} (Ok m) (Err f) = sym e ∙ refused_is image b b' r l f o in absurd cc;
   told = λ c h.
       let book = (loaded image b b' r l c h).0 in
       let same : ◌≡◌ {A = Result ℕ ImageFault} (Ok m) (Ok (length c.notes)) = sym e ∙ (loaded image b b' r l c h).1 in

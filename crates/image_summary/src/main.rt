@@ -1,7 +1,7 @@
 // Reads an image from standard input, and prints what it holds, or why and where it is refused.
 #![tactic(auto)]
 
-ghost use Rattle.std.specs.Prelude.{◌≡◌, is_ok, Decides};
+ghost use Rattle.std.specs.Prelude.{◌≡◌, ◌↔◌, IsOk};
 ghost use Rattle.sheet.specs.Sheets.{book_of};
 ghost use Rattle.charge.specs.Charges.{plain};
 ghost use Rattle.charge.specs.Prices.{priced};
@@ -12,11 +12,11 @@ use image::{MAX_IMAGE, load};
 use image_format::ImageFault;
 use listing::complain;
 use sheet::{Fault, MAX_ALARMS, Sheet};
-use std::io;
-use std::io::{Read, Write};
+use std::io::Read;
+use std::{fmt, io};
 
 // What is told of a good image.
-#[derive(Clone, Copy)]
+#[derive(Clone, Copy, Debug, PartialEq, Eq)]
 struct Summary {
     alarms: u8,
     rows: usize,
@@ -24,10 +24,25 @@ struct Summary {
     cost: u32,
 }
 
+impl fmt::Display for Summary {
+    fn fmt<W: fmt::Write>(&self, f: &mut fmt::Formatter<W>) -> fmt::Result {
+        let Self {
+            alarms,
+            rows,
+            notes,
+            cost,
+        } = self;
+        write!(
+            f,
+            "{alarms} alarms, {rows} rows, {notes} notes, cost {cost} with all on level 0"
+        )
+    }
+}
+
 // Prices all alarms on level 0 under the plain charge.
 fn price_on_top(sheet: &Sheet) -> Result<u32, Fault>
     ensures answered { result ≡ priced (book_of sheet.now) plain all_on_top }
-    ensures placed { Decides (is_ok result) (FitsTop (book_of sheet.now)) }
+    ensures placed { IsOk result ↔ FitsTop (book_of sheet.now) }
 {
     price(sheet, &Plain, &[0; MAX_ALARMS as usize])
 }
@@ -54,12 +69,10 @@ fn summarize(image: &[u8]) -> Result<Summary, ImageFault>
 }
 
 // Prints the line that tells a refusal.
-fn print_complaint(rt: &HostRuntime, fault: &ImageFault) -> io::Result<()> {
+fn print_complaint(rt: &impl Print, fault: &ImageFault) -> io::Result<()> {
     let mut line = [0; 64];
-    match complain(fault, &mut line) {
-        Ok(length) => rt.stdout().write_all(&line[..length]),
-        Err(_) => Ok(()),
-    }
+    let length = complain(fault, &mut line).unwrap_or(0);
+    rt.write_all(&line[..length])
 }
 
 fn main(rt: HostRuntime) -> io::Result<()> {
@@ -68,16 +81,7 @@ fn main(rt: HostRuntime) -> io::Result<()> {
         .take(MAX_IMAGE as u64 + 1)
         .read_to_end(&mut image)?;
     match summarize(&image) {
-        Ok(
-            Summary {
-                alarms,
-                rows,
-                notes,
-                cost,
-            },
-        ) => println!(rt;
-            "{alarms} alarms, {rows} rows, {notes} notes, cost {cost} with all on level 0"
-        ),
+        Ok(summary) => println!(rt; "{summary}"),
         Err(fault) => print_complaint(&rt, &fault),
     }
 }

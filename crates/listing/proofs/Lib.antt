@@ -1,3 +1,1 @@
-mod Joined
-mod Lengths
 pub mod Decimals

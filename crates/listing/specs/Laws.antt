@@ -1,5 +1,5 @@
 -- What a number in decimal is, in the subject's words.
-use Rattle.std.specs.Prelude.{◌≡◌, ℕ, ◌+◌, ◌-◌, ◌*◌, ◌^◌, ◌<◌, true, List, [], ◌∷◌, decimal, ◌≢◌, slice_index}
+use Rattle.std.specs.Prelude.{◌≡◌, ℕ, ◌+◌, ◌-◌, ◌*◌, ◌^◌, ◌<◌, List, [], ◌∷◌, decimal, ◌≢◌, slice_index, IsTrue}
 use Rattle.std.specs.Str.{all_ascii_digits}
 
 -- the number that digits write behind the number n
@@ -9,7 +9,7 @@ read_digits n (d ∷ ds) = read_digits (10 * n + (d - 48)) ds
 
 -- digits that write n, without leading zeros
 pub record WritesNumber (n : ℕ) (ds : List ℕ) : Type 0 where
-  pub digits : all_ascii_digits ds ≡ true
+  pub digits : IsTrue (all_ascii_digits ds)
   pub value : read_digits 0 ds ≡ n
   -- 0 is one digit, and any other number does not begin with it
   pub zero : n ≡ 0 → ds ≡ 48 ∷ []

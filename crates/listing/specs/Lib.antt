@@ -1,4 +1,3 @@
 pub mod Writes
 pub mod Complaints
-pub mod Puts
 pub mod Laws

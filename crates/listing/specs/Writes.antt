@@ -1,6 +1,6 @@
 -- What it is to write a text to a caller's buffer.
-use Rattle.std.specs.Prelude.{◌≡◌, ℕ, true, false, List, [], ◌∷◌, ◌++◌, length, drop, is_ok, Ok, Result, nat_lt}
-use Rattle.image_format.specs.Causes.{◌if◌, past}
+use Rattle.std.specs.Prelude.{◌≡◌, ℕ, List, [], ◌∷◌, ◌++◌, length, drop, Ok, Result, OnOk, OnErr, nat_lt}
+use Rattle.sheet.specs.Causes.{◌if◌, past}
 use Rattle.image_format.specs.declared.fault.ImageCause.TheVariants.{ShortBuffer}
 use Rattle.image_format.specs.declared.fault.ImageFault.{ImageFault}
 
@@ -13,5 +13,5 @@ short_buffer = record { cause = ShortBuffer; place = 0 }
 pub record Writes (text before : List ℕ) (r : Result ℕ ImageFault) (after : List ℕ) : Type 0 where
   -- its length, or the refusal
   pub answered : r ≡ past ((short_buffer if nat_lt (length before) (length text)) ∷ []) (Ok (length text))
-  pub written : is_ok r ≡ true → after ≡ text ++ drop (length text) before
-  pub kept : is_ok r ≡ false → after ≡ before
+  pub written : OnOk r (after ≡ text ++ drop (length text) before)
+  pub kept : OnErr r (after ≡ before)

@@ -1,49 +1,33 @@
 // The line that tells a refusal.
-ghost use Rattle.std.specs.Prelude.{◌≡◌, ◌≤◌, length, Ok};
+ghost use Rattle.std.specs.Prelude.{◌≡◌};
 ghost use Rattle.listing.specs.Complaints.{complaint};
-ghost use Rattle.listing.specs.Puts.{complaint_length};
 ghost use Rattle.listing.specs.Writes.{Writes};
 
-use crate::text::{digits, put, put_decimal};
-use image_format::{ImageCause, ImageFault};
+use crate::text::write_text;
+use arrayvec::ArrayString;
+use image_format::ImageFault;
+use itoa::Buffer;
 
-const REFUSED: [u8; 8] = *b"refused ";
-
-const AT: [u8; 4] = *b" at ";
-
-const LINE_FEED: [u8; 1] = *b"\n";
+// The most bytes of a line: `refused `, a number of 3 digits, ` at `, a place of 20 digits, and a line feed.
+const LINE: usize = 8 + 3 + 4 + 20 + 1;
 
 // Writes the line that tells a refusal to the front of a buffer, and answers its length.
 pub fn complain(fault: &ImageFault, out: &mut [u8]) -> Result<usize, ImageFault>
     ensures { Writes (complaint fault.now) out.old result out.new }
 {
-    if out.len() < line_length(fault) {
-        return Err(ImageFault {
-            cause: ImageCause::ShortBuffer,
-            place: 0,
-        });
-    }
-    Ok(put_line(fault, out))
+    write_text(line(fault).as_str(), out)
 }
 
-// Answers the length of the line that tells a refusal.
-fn line_length(fault: &ImageFault) -> usize
-    ensures parts { result ≡ complaint_length fault.now }
-    ensures whole { result ≡ length (complaint fault.now) }
+// The line that tells a refusal. What `write!` promises does not say when it succeeds, so the line is joined from its parts.
+fn line(fault: &ImageFault) -> ArrayString<LINE>
+    ensures { result.bytes ≡ complaint fault.now }
 {
-    let number = digits(fault.number() as u64);
-    let place = digits(fault.place as u64);
-    REFUSED.len() + number + AT.len() + place + LINE_FEED.len()
-}
-
-// Puts the line that tells a refusal at the front of a buffer, and answers its length.
-fn put_line(fault: &ImageFault, out: &mut [u8]) -> usize
-    requires { complaint_length fault.now ≤ length out.old }
-    ensures { Writes (complaint fault.now) out.old (Ok result) out.new }
-{
-    let at = put(out, 0, &REFUSED);
-    let at = put_decimal(out, at, fault.number() as u64);
-    let at = put(out, at, &AT);
-    let at = put_decimal(out, at, fault.place as u64);
-    put(out, at, &LINE_FEED)
+    let mut digits = Buffer::new();
+    let mut line = ArrayString::new();
+    line.push_str("refused ");
+    line.push_str(digits.format(fault.number()));
+    line.push_str(" at ");
+    line.push_str(digits.format(fault.place));
+    line.push('\n');
+    line
 }
