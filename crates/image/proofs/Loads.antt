@@ -1,5 +1,5 @@
 -- From what is read to what a load says. Assumes nothing.
-use Rattle.std.proofs.Common.{◌≡◌, ℕ, List, length, Ok, Err, Result, sym, refl, ap, ◌∙◌, subst, arith}
+use Rattle.std.proofs.Common.{◌≡◌, ℕ, List, length, get_or, Fits, w8, Ok, Err, Result, sym, refl, ap, ◌∙◌, subst, arith}
 use Rattle.std.specs.Result.{result_map_both}
 use Rattle.sheet.specs.Books.{Book}
 use Rattle.image_format.specs.declared.fault.ImageFault.{ImageFault}
@@ -19,15 +19,18 @@ holding image x b' m small e book same =
     subst (ComesTo image) y (accepted_holds image x small e)
 
 -- a refused image holds nothing
-nothing_held : (image : List ℕ) (f : ImageFault) → outcome image ≡ Err f → (c : Content) → Holds image c → ⊥
+pub nothing_held : (image : List ℕ) (f : ImageFault) → outcome image ≡ Err f → (c : Content) → Holds image c → ⊥
 nothing_held image f e c h =
     let x : Described = record { book = described c; fields = length c.notes } in
     let w : ◌≡◌ {A = Result Described ImageFault} (Err f) (Ok x) = sym e ∙ holding_accepted image x (record { content = c; holds = h; book = refl; fields = refl }) in
     let z : ◌≡◌ {A = ℕ} 0 1 = cc in omega arith
 
-pub loads : (image : List ℕ) → Bytes image → (b b' : Book) (r : Result ℕ ImageFault) → r ≡ result_map_both (λ x. x.fields) (λ f. f) (outcome image) → b' ≡ book_after b (outcome image) → Loads image b r b'
-loads image small b b' r told left = go (outcome image) refl told left
+pub loads : (image : List ℕ) → ((i : ℕ) → Fits w8 (get_or image i 0)) → (b b' : Book) (r : Result ℕ ImageFault) → r ≡ result_map_both (λ x. x.fields) (λ f. f) (outcome image) → b' ≡ book_after b (outcome image) → Loads image b r b'
+loads image fits b b' r told left = go (outcome image) refl told left
   where
+    small : Bytes image
+    small i = let f = (fits i).fits in omega arith
+
     go : (o : Result Described ImageFault) → outcome image ≡ o → r ≡ result_map_both (λ x. x.fields) (λ f. f) o → b' ≡ book_after b o → Loads image b r b'
     go (Ok x) e t l = record {
       answered = told;
