@@ -1,8 +1,7 @@
 -- Reading an image field by field. Assumes nothing.
-use Rattle.std.proofs.Common.{◌≡◌, ℕ, zero, suc, ◌+◌, ◌≤◌, ltb, List, [], ◌∷◌, length, Ok, Err, Result, refl, sym, ap, ◌∙◌, arith}
-use Rattle.std.proofs.lemmas.Bool.{cond-false, le-ltb}
+use Rattle.std.proofs.Common.{◌≡◌, ℕ, zero, suc, ◌+◌, ◌≤◌, List, [], ◌∷◌, length, Ok, Err, Result, refl, ap, arith}
+use Rattle.std.proofs.lemmas.Bool.Decides.{nat_tests}
 use Rattle.image_format.specs.declared.fault.ImageCause.{ImageCause}
-use Rattle.image_format.specs.declared.fault.ImageCause.TheVariants.{TooLong}
 use Rattle.image_format.specs.declared.fault.ImageFault.{ImageFault}
 use Rattle.image_format.specs.Fields.{Item, whole, short, item, items, max_image}
 use Rattle.image_format.specs.Images.{Kind, State, Described, finished, start, read, read_on, refused_at, step}
@@ -39,5 +38,5 @@ module _ {S : Type 0} (K : Kind S) where
   -- so the image is read field by field
   pub read_image : (u : S) (image : List ℕ) → length image ≤ max_image → read_fields (start u) (length image) (placed 0 (items 0 image)) ≡ read K u image
   read_image u image few =
-      read_items image 0 (start u) 0 (length image) (omega arith) (omega arith)
-      ∙ sym (cond-false (ltb max_image (length image)) (refused_at TooLong max_image) (read_on K (start u) 0 (items 0 image)) (le-ltb _ _ few))
+      let e = read_items image 0 (start u) 0 (length image) (omega arith) (omega arith) in
+      grind (arith, nat_tests)

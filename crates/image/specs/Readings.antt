@@ -6,7 +6,6 @@ use Rattle.sheet.specs.Sheets.{book_of}
 use Rattle.image_format.specs.Causes.{◌if◌, past}
 use Rattle.image_format.specs.declared.fault.ImageCause.{ImageCause}
 use Rattle.image_format.specs.declared.fault.ImageCause.TheVariants.{Length, Tag}
-use Rattle.image_format.specs.declared.fault.ImageFault.{ImageFault}
 use Rattle.image_format.specs.Names.{max_name}
 use Rattle.image_format.specs.Images.{Kind, State, start, naming, noting, opened, limited, named as name_said, noted, Described}
 use Rattle.image.specs.declared.reading.Naming.{Naming}
@@ -34,15 +33,9 @@ fields_noted (start s) = 0
 fields_noted (naming s k names) = 0
 fields_noted (noting s b m) = m
 
--- the states that calls answer, or why they refuse
-abbrev pub named : {S : Type 0} → Result (Naming S) ImageCause → Result (State S) ImageCause
-named r = result_map_both naming_of (λ c. c) r
-
-abbrev pub noted_so_far : {S : Type 0} → Result (Noting S) ImageCause → Result (State S) ImageCause
-noted_so_far r = result_map_both noting_of (λ c. c) r
-
-abbrev pub read_so_far : {S : Type 0} → Result (Reading S) ImageCause → Result (State S) ImageCause
-read_so_far r = result_map_both state_of (λ c. c) r
+-- the answer of a call, by what it stands for
+abbrev pub seen_by : {A B E : Type 0} → (A → B) → Result A E → Result B E
+seen_by view r = result_map_both view (λ e. e) r
 
 -- what the format says of a value, whatever its length: of a limit,
 abbrev pub limit_told : {S : Type 0} → S → List ℕ → Result (State S) ImageCause
@@ -72,6 +65,6 @@ abbrev pub noted_behind : {S : Type 0} → Kind S → Option (S × Book × ℕ) 
 noted_behind K None v = Err Tag
 noted_behind K (Some x) v = note_told K x v
 
--- what is read, as it comes of the image
-abbrev pub outcome_of : {S : Type 0} → Result (Noting S) ImageFault → Result Described ImageFault
-outcome_of r = result_map_both (λ n. record { book = book_of n.sheet; fields = n.fields }) (λ f. f) r
+-- a sheet that was read, as what its image describes
+abbrev pub described_by : {S : Type 0} → Noting S → Described
+described_by n = record { book = book_of n.sheet; fields = n.fields }

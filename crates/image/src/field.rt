@@ -71,7 +71,7 @@ impl<'a> Iterator for Fields<'a> {
 
     // Nothing is read behind a field that is cut short.
     #[tactic(auto, using(crate::proofs::Placed::placed_whole))]
-    fn next(&mut self) -> Option<Result<Field<'a>, ImageFault>> {
+    fn next(&mut self) -> Option<Self::Item> {
         if self.rest.is_empty() {
             return None;
         }

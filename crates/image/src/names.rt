@@ -8,13 +8,13 @@ use image_format::{ImageCause, ImageFault};
 use sheet::{Fault, Sheet};
 
 // A reader of an image.
-#[derive(Clone, Copy)]
+#[derive(Clone, Copy, PartialEq, Eq, Debug)]
 pub struct Image<'a> {
     bytes: &'a [u8],
 }
 
 // A name's bytes, which lie in the image, and the place of the first of them.
-#[derive(Clone, Copy)]
+#[derive(Clone, Copy, PartialEq, Eq, Debug)]
 pub struct Name<'a> {
     pub bytes: &'a [u8],
     pub place: usize,

@@ -48,11 +48,11 @@ pub(crate) enum Reading<'a, S> {
 }
 
 impl<'a, S: Source + Drop> Naming<'a, S> {
-    ghost use Rattle.image.specs.Readings.{limit_told, name_told, named, names_of, naming_of, behind, noting_parts};
+    ghost use Rattle.image.specs.Readings.{behind, limit_told, name_told, names_of, naming_of, noting_parts, seen_by};
 
     // Takes in the limit.
     fn new(source: S, value: &[u8]) -> Result<Self, ImageCause>
-        ensures { named result ≡ limit_told source value.now }
+        ensures { seen_by naming_of result ≡ limit_told source value.now }
     {
         let &[limit] = value else {
             return Err(ImageCause::Length);
@@ -76,7 +76,7 @@ impl<'a, S: Source + Drop> Naming<'a, S> {
 
     // Takes in a name.
     fn push(mut self, name: &'a [u8]) -> Result<Self, ImageCause>
-        ensures { named result ≡ name_told self.entry name.now }
+        ensures { seen_by naming_of result ≡ name_told self.entry name.now }
     {
         if !(1..=MAX_NAME).contains(&name.len()) {
             return Err(ImageCause::Length);
@@ -104,8 +104,7 @@ impl<'a, S: Source + Drop> Naming<'a, S> {
             names,
         } = self;
         let alarms = u8::try_from(names.len()).ok()?;
-        let limit = sheet.limit();
-        sheet.open(alarms, limit).ok()?;
+        sheet.open(alarms, sheet.limit()).ok()?;
         Some(Noting {
             source,
             sheet,
@@ -115,12 +114,12 @@ impl<'a, S: Source + Drop> Naming<'a, S> {
 }
 
 impl<S: Source + Drop> Noting<S> {
-    ghost use Rattle.image.specs.Readings.{noted_so_far, noting_parts, note_told};
+    ghost use Rattle.image.specs.Readings.{note_told, noting_of, noting_parts, seen_by};
 
     // Takes in a field behind the names.
     fn take(mut self, value: &[u8]) -> Result<Self, ImageCause>
         requires { self.fields + 1 < 2 ^ 32 }
-        ensures { noted_so_far result ≡ note_told S.Source.kind (noting_parts self) value.now }
+        ensures { seen_by noting_of result ≡ note_told S.Source.kind (noting_parts self) value.now }
     {
         self.source.take(&mut self.sheet, value)?;
         self.fields += 1;
@@ -130,7 +129,7 @@ impl<S: Source + Drop> Noting<S> {
 
 impl<'a, S: Source + Drop> Reading<'a, S> {
     ghost use Rattle.image_format.specs.Images.{finished, step as step_to};
-    ghost use Rattle.image.specs.Readings.{behind, fields_noted, noted_behind, noting_parts, outcome_of, read_so_far, state_of};
+    ghost use Rattle.image.specs.Readings.{behind, described_by, fields_noted, noted_behind, noting_parts, seen_by, state_of};
 
     // The sheet behind the names, if there are any.
     fn opened(self) -> Option<Noting<S>>
@@ -146,7 +145,7 @@ impl<'a, S: Source + Drop> Reading<'a, S> {
     // Takes in a field behind the names.
     fn note(self, value: &[u8]) -> Result<Self, ImageCause>
         requires { fields_noted (state_of self) + 1 < 2 ^ 32 }
-        ensures { read_so_far result ≡ noted_behind S.Source.kind (behind (state_of self.entry)) value.now }
+        ensures { seen_by state_of result ≡ noted_behind S.Source.kind (behind (state_of self.entry)) value.now }
     {
         let noting = self.opened().ok_or(ImageCause::Tag)?;
         Ok(Reading::Noting(noting.take(value)?))
@@ -156,7 +155,7 @@ impl<'a, S: Source + Drop> Reading<'a, S> {
     #[tactic(auto, using(crate::proofs::Steps::step_behind))]
     pub(crate) fn step(self, field: Field<'a>) -> Result<Self, ImageCause>
         requires { fields_noted (state_of self) + 1 < 2 ^ 32 }
-        ensures { read_so_far result ≡ step_to S.Source.kind (state_of self.entry) field.entry.tag field.entry.value.now }
+        ensures { seen_by state_of result ≡ step_to S.Source.kind (state_of self.entry) field.entry.tag field.entry.value.now }
     {
         if field.tag == S::tag() {
             return self.note(field.value);
@@ -172,7 +171,7 @@ impl<'a, S: Source + Drop> Reading<'a, S> {
 
     // Ends the reading where the image ends.
     pub(crate) fn finish(self, place: usize) -> Result<Noting<S>, ImageFault>
-        ensures { outcome_of result ≡ finished (state_of self.entry) place }
+        ensures { seen_by described_by result ≡ finished (state_of self.entry) place }
     {
         self.opened().ok_or(ImageCause::NoName.at(place))
     }

@@ -3,12 +3,10 @@
 
 #[cfg(test)]
 mod tests {
-    use image::{Image, load};
+    use image::{Image, Name, load};
     use image_format::{ImageCause, ImageFault};
     use listing::complain;
     use sheet::{Fault, Row, Sheet};
-    use std::process::Abort;
-    use std::test::Fail;
 
     // Limit 3, the names P1, P2 and P3, and notes of the ring.
     const RING: [u8; 40] = *b"\x01\0\x01\x03\x02\0\x02P1\x02\0\x02P2\x02\0\x02P3\
@@ -46,25 +44,9 @@ mod tests {
         sheet
     }
 
-    // Why the name of an alarm is refused, if it is.
-    fn name_fault(image: &[u8], alarm: u8) -> Option<ImageFault> {
-        Image::over(image).name(alarm).err()
-    }
-
-    // Checks the bytes of an alarm's name and their place.
-    fn check_name(
-        rt: &impl Abort,
-        image: &[u8],
-        alarm: u8,
-        bytes: &[u8],
-        place: usize,
-    ) -> Result<(), Fail> {
-        let Ok(name) = Image::over(image).name(alarm) else {
-            return Err(Fail::new("no name"));
-        };
-        assert!(rt; name.bytes == bytes);
-        assert_eq!(rt; name.place, place);
-        Ok(())
+    // What is answered for the name of an alarm.
+    fn name(image: &[u8], alarm: u8) -> Result<Name<'_>, ImageFault> {
+        Image::over(image).name(alarm)
     }
 
     #[test]
@@ -92,34 +74,46 @@ mod tests {
     }
 
     #[test]
-    fn hands_out_each_name(rt: HostRuntime) -> Result<(), Fail> {
-        check_name(&rt, &RING, 0, b"P1", 7)?;
-        check_name(&rt, &RING, 1, b"P2", 12)?;
-        check_name(&rt, &RING, 2, b"P3", 17)
+    fn hands_out_each_name(rt: HostRuntime) {
+        assert_eq!(rt;
+            name(&RING, 0),
+            Ok(Name {
+                bytes: b"P1",
+                place: 7
+            })
+        );
+        assert_eq!(rt;
+            name(&RING, 1),
+            Ok(Name {
+                bytes: b"P2",
+                place: 12
+            })
+        );
+        assert_eq!(rt;
+            name(&RING, 2),
+            Ok(Name {
+                bytes: b"P3",
+                place: 17
+            })
+        );
     }
 
     #[test]
     fn refuses_the_name_of_an_unknown_alarm(rt: HostRuntime) {
-        let unknown = ImageFault {
-            cause: ImageCause::Sheet(Fault::UnknownAlarm),
-            place: 0,
-        };
+        let unknown = ImageCause::Sheet(Fault::UnknownAlarm).at(0);
         assert_eq!(rt; unknown.number(), 12);
-        assert_eq!(rt; name_fault(&RING, 3), Some(unknown));
-        assert_eq!(rt; name_fault(&RING, 255), Some(unknown));
+        assert_eq!(rt; name(&RING, 3), Err(unknown));
+        assert_eq!(rt; name(&RING, 255), Err(unknown));
     }
 
     #[test]
     fn refuses_names_of_a_broken_image(rt: HostRuntime) {
-        assert_eq!(rt; name_fault(&pinned(), 0), Some(PINNED));
-        assert_eq!(rt; name_fault(&pinned(), 2), Some(PINNED));
-        assert_eq!(rt; name_fault(&pinned(), 3), Some(PINNED));
-        let cut = ImageFault {
-            cause: ImageCause::CutShort,
-            place: 33,
-        };
-        assert_eq!(rt; name_fault(&RING[0..39], 0), Some(cut));
-        assert_eq!(rt; name_fault(&RING[0..39], 255), Some(cut));
+        for alarm in [0, 2, 3] {
+            assert_eq!(rt; name(&pinned(), alarm), Err(PINNED));
+        }
+        let cut = ImageCause::CutShort.at(33);
+        assert_eq!(rt; name(&RING[..39], 0), Err(cut));
+        assert_eq!(rt; name(&RING[..39], 255), Err(cut));
     }
 
     #[test]
@@ -131,10 +125,7 @@ mod tests {
 
     #[test]
     fn refuses_a_buffer_that_is_one_byte_short(rt: HostRuntime) {
-        let short = ImageFault {
-            cause: ImageCause::ShortBuffer,
-            place: 0,
-        };
+        let short = ImageCause::ShortBuffer.at(0);
         let mut out = [b'x'; 16];
         assert_eq!(rt; complain(&PINNED, &mut out), Err(short));
         assert!(rt; &out == b"xxxxxxxxxxxxxxxx");
@@ -151,10 +142,7 @@ mod tests {
 
     #[test]
     fn complains_of_the_shortest_and_the_longest_place(rt: HostRuntime) {
-        let mut fault = ImageFault {
-            cause: ImageCause::TooLong,
-            place: 0,
-        };
+        let mut fault = ImageCause::TooLong.at(0);
         let mut out = [b'x'; 36];
         assert_eq!(rt; complain(&fault, &mut out), Ok(16));
         assert!(rt; &out == b"refused 30 at 0\nxxxxxxxxxxxxxxxxxxxx");
