@@ -7,6 +7,7 @@ mod tests {
     use image_format::{ImageCause, ImageFault};
     use listing::complain;
     use sheet::{Fault, Row, Sheet};
+    use std::test::Fail;
 
     // Limit 3, the names P1, P2 and P3, and notes of the ring.
     const RING: [u8; 40] = *b"\x01\0\x01\x03\x02\0\x02P1\x02\0\x02P2\x02\0\x02P3\
@@ -36,12 +37,12 @@ mod tests {
     }
 
     // A sheet of four alarms and limit 5 with two rows.
-    fn held() -> Sheet {
+    fn held() -> Result<Sheet, Fault> {
         let mut sheet = Sheet::new();
-        let _ = sheet.open(4, 5);
-        let _ = sheet.note(3, 1, 9);
-        let _ = sheet.note(0, 1, 32766);
-        sheet
+        sheet.open(4, 5)?;
+        sheet.note(3, 1, 9)?;
+        sheet.note(0, 1, 32766)?;
+        Ok(sheet)
     }
 
     // What is answered for the name of an alarm.
@@ -50,21 +51,23 @@ mod tests {
     }
 
     #[test]
-    fn loads_the_ring(rt: HostRuntime) {
-        let mut sheet = held();
+    fn loads_the_ring(rt: HostRuntime) -> Result<(), Fail> {
+        let mut sheet = held()?;
         assert_eq!(rt; load(&RING, &mut sheet), Ok(3));
         assert_eq!(rt; (sheet.alarms(), sheet.limit()), (3, 3));
         let want = [row(0, 1, 5), row(1, 2, 4), row(2, 0, 1)];
-        assert!(rt; sheet.rows() == want.as_slice());
+        assert_eq!(rt; sheet.rows(), want.as_slice());
+        Ok(())
     }
 
     #[test]
-    fn keeps_the_sheet_where_a_later_note_is_refused(rt: HostRuntime) {
-        let mut sheet = held();
-        assert!(rt; load(&pinned(), &mut sheet).is_err());
+    fn keeps_the_sheet_where_a_later_note_is_refused(rt: HostRuntime) -> Result<(), Fail> {
+        let mut sheet = held()?;
+        assert_eq!(rt; load(&pinned(), &mut sheet), Err(PINNED));
         assert_eq!(rt; (sheet.alarms(), sheet.limit()), (4, 5));
         let want = [row(3, 1, 9), row(0, 1, 32766)];
-        assert!(rt; sheet.rows() == want.as_slice());
+        assert_eq!(rt; sheet.rows(), want.as_slice());
+        Ok(())
     }
 
     #[test]
@@ -75,27 +78,9 @@ mod tests {
 
     #[test]
     fn hands_out_each_name(rt: HostRuntime) {
-        assert_eq!(rt;
-            name(&RING, 0),
-            Ok(Name {
-                bytes: b"P1",
-                place: 7
-            })
-        );
-        assert_eq!(rt;
-            name(&RING, 1),
-            Ok(Name {
-                bytes: b"P2",
-                place: 12
-            })
-        );
-        assert_eq!(rt;
-            name(&RING, 2),
-            Ok(Name {
-                bytes: b"P3",
-                place: 17
-            })
-        );
+        for (alarm, bytes, place) in [(0, b"P1", 7), (1, b"P2", 12), (2, b"P3", 17)] {
+            assert_eq!(rt; name(&RING, alarm), Ok(Name { bytes, place }));
+        }
     }
 
     #[test]
