@@ -1,7 +1,7 @@
 -- What is told of an alarm's name.
 use Rattle.std.specs.Prelude.{◌≡◌, ℕ, ◌+◌, List, [], ◌∷◌, map, length, take, drop, Ok, Err, Result, nat_le, slice_index_or}
 use Rattle.std.specs.Result.{result_map_both}
-use Rattle.image_format.specs.Causes.{◌if◌, past}
+use Rattle.sheet.specs.Causes.{◌if◌, past}
 use Rattle.sheet.specs.declared.fault.Fault.TheVariants.{UnknownAlarm}
 use Rattle.image_format.specs.declared.fault.ImageCause.TheVariants.{Sheet}
 use Rattle.image_format.specs.declared.fault.ImageFault.{ImageFault}

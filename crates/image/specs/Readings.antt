@@ -3,7 +3,7 @@ use Rattle.std.specs.Prelude.{ℕ, List, [], ◌∷◌, ◌&&◌, ◌==◌, nat_
 use Rattle.std.specs.Result.{result_map_both}
 use Rattle.sheet.specs.Books.{Book}
 use Rattle.sheet.specs.Sheets.{book_of}
-use Rattle.image_format.specs.Causes.{◌if◌, past}
+use Rattle.sheet.specs.Causes.{◌if◌, past}
 use Rattle.image_format.specs.declared.fault.ImageCause.{ImageCause}
 use Rattle.image_format.specs.declared.fault.ImageCause.TheVariants.{Length, Tag}
 use Rattle.image_format.specs.Names.{max_name}

@@ -2,7 +2,7 @@
 use Rattle.std.specs.Prelude.{ℕ, ◌==◌, List, [], ◌∷◌, length, not, Ok, Err, Result}
 use Rattle.std.specs.Result.{result_map_both}
 use Rattle.sheet.specs.Books.{Book}
-use Rattle.image_format.specs.Causes.{◌if◌, past}
+use Rattle.sheet.specs.Causes.{◌if◌, past}
 use Rattle.image_format.specs.declared.fault.ImageCause.{ImageCause}
 use Rattle.image_format.specs.declared.fault.ImageCause.TheVariants.{Length, Sheet}
 use Rattle.image_format.specs.Images.{Kind}

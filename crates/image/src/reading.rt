@@ -152,7 +152,6 @@ impl<'a, S: Source + Drop> Reading<'a, S> {
     }
 
     // Takes in a field.
-    #[tactic(auto, using(crate::proofs::Steps::step_behind))]
     pub(crate) fn step(self, field: Field<'a>) -> Result<Self, ImageCause>
         requires { fields_noted (state_of self) + 1 < 2 ^ 32 }
         ensures { seen_by state_of result ≡ step_to S.Source.kind (state_of self.entry) field.entry.tag field.entry.value.now }
