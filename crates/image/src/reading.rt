@@ -34,7 +34,7 @@ pub(crate) struct Naming<'a, S> {
 // A sheet that was opened for the names, and how many fields behind them went into it.
 #[derive(Drop)]
 pub(crate) struct Noting<S> {
-    pub(crate) source: S,
+    source: S,
     pub(crate) sheet: Sheet,
     pub(crate) fields: u32,
 }
