@@ -1,4 +1,6 @@
+pub mod Placed
+pub mod Given
 pub mod Steps
+pub mod InTurn
 pub mod Loads
-pub mod Walks
 pub mod Namings

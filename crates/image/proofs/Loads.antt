@@ -1,5 +1,5 @@
 -- From what is read to what a load says. Assumes nothing.
-use Rattle.std.proofs.Common.{◌≡◌, ℕ, List, length, Ok, Err, Result, sym, refl, ap, ◌∙◌, subst, arith}
+use Rattle.std.proofs.Common.{◌≡◌, ℕ, List, length, slice_index, Fits, w8, Ok, Err, Result, sym, refl, ap, ◌∙◌, subst, arith}
 use Rattle.std.specs.Result.{result_map_both}
 use Rattle.sheet.specs.Books.{Book}
 use Rattle.image_format.specs.declared.fault.ImageFault.{ImageFault}
@@ -11,44 +11,41 @@ use Rattle.image_format.specs.Laws.{ComesTo}
 use Rattle.image_format.proofs.Tellings.{accepted_holds, holding_accepted}
 use Rattle.image.specs.Loads.{Loads, book_after}
 
--- an accepted image holds what it comes to
-holding : (image : List ℕ) (x : Described) (b' : Book) (m : ℕ) → Bytes image → outcome image ≡ Ok x → b' ≡ x.book → ◌≡◌ {A = Result ℕ ImageFault} (Ok x.fields) (Ok m) → ComesTo image (record { book = b'; fields = m })
-holding image x b' m small e book same =
-    let n : x.fields ≡ m = cc in
-    let y : x ≡ record { book = b'; fields = m } = ap (λ b. record { book = b; fields = x.fields }) (sym book) ∙ ap (λ k. record { book = b'; fields = k }) n in
-    subst (ComesTo image) y (accepted_holds image x small e)
+abbrev fields_of : Result Described ImageFault → Result ℕ ImageFault
+fields_of o = result_map_both (λ x. x.fields) (λ f. f) o
 
--- a refused image holds nothing
-nothing_held : (image : List ℕ) (f : ImageFault) → outcome image ≡ Err f → (c : Content) → Holds image c → ⊥
-nothing_held image f e c h =
-    let x : Described = record { book = described c; fields = length c.notes } in
-    let w : ◌≡◌ {A = Result Described ImageFault} (Err f) (Ok x) = sym e ∙ holding_accepted image x (record { content = c; holds = h; book = refl; fields = refl }) in
-    let z : ◌≡◌ {A = ℕ} 0 1 = cc in omega arith
+-- an image that holds a content comes to its book and its number of notes
+content_outcome : (image : List ℕ) (c : Content) → Holds image c → outcome image ≡ Ok (record { book = described c; fields = length c.notes })
+content_outcome image c h = holding_accepted image _ (record { content = c; holds = h; book = refl; fields = refl })
 
-pub loads : (image : List ℕ) → Bytes image → (b b' : Book) (r : Result ℕ ImageFault) → r ≡ result_map_both (λ x. x.fields) (λ f. f) (outcome image) → b' ≡ book_after b (outcome image) → Loads image b r b'
-loads image small b b' r told left = go (outcome image) refl told left
-  where
-    go : (o : Result Described ImageFault) → outcome image ≡ o → r ≡ result_map_both (λ x. x.fields) (λ f. f) o → b' ≡ book_after b o → Loads image b r b'
-    go (Ok x) e t l = record {
-      answered = told;
-      leaves = left;
-      holds = λ m h. holding image x b' m small e l (sym t ∙ h);
-      refuses = λ f h c w. let y : ◌≡◌ {A = Result ℕ ImageFault} (Ok x.fields) (Err f) = sym t ∙ h in let z : ◌≡◌ {A = ℕ} 0 1 = cc in omega arith;
-    }
-    go (Err f) e t l = record {
-      answered = told;
-      leaves = left;
-      holds = λ m h. let y : ◌≡◌ {A = Result ℕ ImageFault} (Err f) (Ok m) = sym t ∙ h in let z : ◌≡◌ {A = ℕ} 0 1 = cc in absurd (omega arith);
-      refuses = λ g h c w. nothing_held image f e c w;
-    }
+module _ (image : List ℕ) (b b' : Book) (r : Result ℕ ImageFault) where
+  pub loads : ((i : ℕ) → Fits w8 (slice_index image i)) → r ≡ fields_of (outcome image) → b' ≡ book_after b (outcome image) → Loads image b r b'
+  loads fits told left = go (outcome image) refl told left
+    where
+      small : Bytes image
+      small i = let f = (fits i).fits in omega arith
 
--- an image that holds a content is loaded with its book, and answers its number of notes
-pub loaded : (image : List ℕ) (b b' : Book) (r : Result ℕ ImageFault) → Loads image b r b' → (c : Content) → Holds image c → (b' ≡ described c) × (r ≡ Ok (length c.notes))
-loaded image b b' r l c h =
-    let x : Described = record { book = described c; fields = length c.notes } in
-    let e = holding_accepted image x (record { content = c; holds = h; book = refl; fields = refl }) in
-    (l.leaves ∙ ap (book_after b) e, l.answered ∙ ap (result_map_both (λ (y : Described). y.fields) (λ (f : ImageFault). f)) e)
+      go : (o : Result Described ImageFault) → outcome image ≡ o → r ≡ fields_of o → b' ≡ book_after b o → Loads image b r b'
+      go (Ok x) e t l = record {
+        answered = told;
+        leaves = left;
+        holds = λ m h.
+            let n : x.fields ≡ m = cc in
+            subst (ComesTo image) (ap (λ y. record { book = y; fields = x.fields }) (sym l) ∙ ap (λ k. record { book = b'; fields = k }) n) (accepted_holds image x small e);
+        refuses = λ f h c w. cc;
+      }
+      go (Err f) e t l = record {
+        answered = told;
+        leaves = left;
+        holds = λ m h. cc;
+        refuses = λ g h c w. let same : ◌≡◌ {A = Result Described ImageFault} (Err f) (Ok (record { book = described c; fields = length c.notes })) = sym e ∙ content_outcome image c w in cc;
+      }
 
--- a load that is accepted or refused is so by the image
-pub refused_is : (image : List ℕ) (b b' : Book) (r : Result ℕ ImageFault) → Loads image b r b' → (f : ImageFault) → outcome image ≡ Err f → r ≡ Err f
-refused_is image b b' r l f o = l.answered ∙ ap (result_map_both (λ (x : Described). x.fields) (λ (g : ImageFault). g)) o
+  module _ (l : Loads image b r b') where
+    -- an image that holds a content is loaded with its book, and answers its number of notes
+    pub loaded : (c : Content) → Holds image c → (b' ≡ described c) × (r ≡ Ok (length c.notes))
+    loaded c h = let e = content_outcome image c h in (l.leaves ∙ ap (book_after b) e, l.answered ∙ ap fields_of e)
+
+    -- a load is refused for what its image is
+    pub refused_is : (f : ImageFault) → outcome image ≡ Err f → r ≡ Err f
+    refused_is f o = l.answered ∙ ap fields_of o

@@ -1,5 +1,5 @@
+pub mod Loads
+pub mod Namings
 pub mod Shown
 pub mod Sources
 pub mod Readings
-pub mod Loads
-pub mod Namings

@@ -3,11 +3,10 @@
 
 #[cfg(test)]
 mod tests {
-    use image::{Image, load};
+    use image::{Image, Name, load};
     use image_format::{ImageCause, ImageFault};
     use listing::complain;
     use sheet::{Fault, Row, Sheet};
-    use std::process::Abort;
     use std::test::Fail;
 
     // Limit 3, the names P1, P2 and P3, and notes of the ring.
@@ -38,51 +37,37 @@ mod tests {
     }
 
     // A sheet of four alarms and limit 5 with two rows.
-    fn held() -> Sheet {
+    fn held() -> Result<Sheet, Fault> {
         let mut sheet = Sheet::new();
-        let _ = sheet.open(4, 5);
-        let _ = sheet.note(3, 1, 9);
-        let _ = sheet.note(0, 1, 32766);
-        sheet
+        sheet.open(4, 5)?;
+        sheet.note(3, 1, 9)?;
+        sheet.note(0, 1, 32766)?;
+        Ok(sheet)
     }
 
-    // Why the name of an alarm is refused, if it is.
-    fn name_fault(image: &[u8], alarm: u8) -> Option<ImageFault> {
-        Image::over(image).name(alarm).err()
+    // What is answered for the name of an alarm.
+    fn name(image: &[u8], alarm: u8) -> Result<Name<'_>, ImageFault> {
+        Image::over(image).name(alarm)
     }
 
-    // Checks the bytes of an alarm's name and their place.
-    fn check_name(
-        rt: &impl Abort,
-        image: &[u8],
-        alarm: u8,
-        bytes: &[u8],
-        place: usize,
-    ) -> Result<(), Fail> {
-        let Ok(name) = Image::over(image).name(alarm) else {
-            return Err(Fail::new("no name"));
-        };
-        assert!(rt; name.bytes == bytes);
-        assert_eq!(rt; name.place, place);
+    #[test]
+    fn loads_the_ring(rt: HostRuntime) -> Result<(), Fail> {
+        let mut sheet = held()?;
+        assert_eq!(rt; load(&RING, &mut sheet), Ok(3));
+        assert_eq!(rt; (sheet.alarms(), sheet.limit()), (3, 3));
+        let want = [row(0, 1, 5), row(1, 2, 4), row(2, 0, 1)];
+        assert_eq!(rt; sheet.rows(), want.as_slice());
         Ok(())
     }
 
     #[test]
-    fn loads_the_ring(rt: HostRuntime) {
-        let mut sheet = held();
-        assert_eq!(rt; load(&RING, &mut sheet), Ok(3));
-        assert_eq!(rt; (sheet.alarms(), sheet.limit()), (3, 3));
-        let want = [row(0, 1, 5), row(1, 2, 4), row(2, 0, 1)];
-        assert!(rt; sheet.rows() == want.as_slice());
-    }
-
-    #[test]
-    fn keeps_the_sheet_where_a_later_note_is_refused(rt: HostRuntime) {
-        let mut sheet = held();
-        assert!(rt; load(&pinned(), &mut sheet).is_err());
+    fn keeps_the_sheet_where_a_later_note_is_refused(rt: HostRuntime) -> Result<(), Fail> {
+        let mut sheet = held()?;
+        assert_eq!(rt; load(&pinned(), &mut sheet), Err(PINNED));
         assert_eq!(rt; (sheet.alarms(), sheet.limit()), (4, 5));
         let want = [row(3, 1, 9), row(0, 1, 32766)];
-        assert!(rt; sheet.rows() == want.as_slice());
+        assert_eq!(rt; sheet.rows(), want.as_slice());
+        Ok(())
     }
 
     #[test]
@@ -92,34 +77,28 @@ mod tests {
     }
 
     #[test]
-    fn hands_out_each_name(rt: HostRuntime) -> Result<(), Fail> {
-        check_name(&rt, &RING, 0, b"P1", 7)?;
-        check_name(&rt, &RING, 1, b"P2", 12)?;
-        check_name(&rt, &RING, 2, b"P3", 17)
+    fn hands_out_each_name(rt: HostRuntime) {
+        for (alarm, bytes, place) in [(0, b"P1", 7), (1, b"P2", 12), (2, b"P3", 17)] {
+            assert_eq!(rt; name(&RING, alarm), Ok(Name { bytes, place }));
+        }
     }
 
     #[test]
     fn refuses_the_name_of_an_unknown_alarm(rt: HostRuntime) {
-        let unknown = ImageFault {
-            cause: ImageCause::Sheet(Fault::UnknownAlarm),
-            place: 0,
-        };
+        let unknown = ImageCause::Sheet(Fault::UnknownAlarm).at(0);
         assert_eq!(rt; unknown.number(), 12);
-        assert_eq!(rt; name_fault(&RING, 3), Some(unknown));
-        assert_eq!(rt; name_fault(&RING, 255), Some(unknown));
+        assert_eq!(rt; name(&RING, 3), Err(unknown));
+        assert_eq!(rt; name(&RING, 255), Err(unknown));
     }
 
     #[test]
     fn refuses_names_of_a_broken_image(rt: HostRuntime) {
-        assert_eq!(rt; name_fault(&pinned(), 0), Some(PINNED));
-        assert_eq!(rt; name_fault(&pinned(), 2), Some(PINNED));
-        assert_eq!(rt; name_fault(&pinned(), 3), Some(PINNED));
-        let cut = ImageFault {
-            cause: ImageCause::CutShort,
-            place: 33,
-        };
-        assert_eq!(rt; name_fault(&RING[0..39], 0), Some(cut));
-        assert_eq!(rt; name_fault(&RING[0..39], 255), Some(cut));
+        for alarm in [0, 2, 3] {
+            assert_eq!(rt; name(&pinned(), alarm), Err(PINNED));
+        }
+        let cut = ImageCause::CutShort.at(33);
+        assert_eq!(rt; name(&RING[..39], 0), Err(cut));
+        assert_eq!(rt; name(&RING[..39], 255), Err(cut));
     }
 
     #[test]
@@ -131,10 +110,7 @@ mod tests {
 
     #[test]
     fn refuses_a_buffer_that_is_one_byte_short(rt: HostRuntime) {
-        let short = ImageFault {
-            cause: ImageCause::ShortBuffer,
-            place: 0,
-        };
+        let short = ImageCause::ShortBuffer.at(0);
         let mut out = [b'x'; 16];
         assert_eq!(rt; complain(&PINNED, &mut out), Err(short));
         assert!(rt; &out == b"xxxxxxxxxxxxxxxx");
@@ -151,10 +127,7 @@ mod tests {
 
     #[test]
     fn complains_of_the_shortest_and_the_longest_place(rt: HostRuntime) {
-        let mut fault = ImageFault {
-            cause: ImageCause::TooLong,
-            place: 0,
-        };
+        let mut fault = ImageCause::TooLong.at(0);
         let mut out = [b'x'; 36];
         assert_eq!(rt; complain(&fault, &mut out), Ok(16));
         assert!(rt; &out == b"refused 30 at 0\nxxxxxxxxxxxxxxxxxxxx");

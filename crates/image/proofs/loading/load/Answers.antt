@@ -1,15 +1,5 @@
-use Rattle.std.proofs.Common.{arith, rules}
 use Rattle.image.proofs.Loads.{loads}
 use Rattle.image.proofs.loading.load.Goals as goal
 
-pub returns-in_err-loaded : goal.returns-in_err-loaded
-returns-in_err-loaded c = record {
-  loads = loads c.args.image.now (λ i. omega (arith, (c.type_inv.image i).fits)) _ _ _ (search rules) (search rules);
-  kept = search rules;
-}
-
-pub returns : goal.returns
-returns c = record {
-  loads = loads c.args.image.now (λ i. omega (arith, (c.type_inv.image i).fits)) _ _ _ (search rules) (search rules);
-  kept = search rules;
-}
+pub returns-clause-loads : goal.returns-clause-loads
+returns-clause-loads c = loads c.args.image.now _ _ _ c.type_inv.image c.load_from.ensures.answered c.load_from.ensures.leaves
