@@ -1,10 +1,10 @@
 -- A charge is the sum of its strands: summation by parts, twice. Assumes nothing.
-use Rattle.std.proofs.Common.{◌≡◌, ℕ, zero, suc, ◌+◌, ◌-◌, ◌*◌, ◌<◌, ◌≤◌, leb, List, get_or, sym, ap, ◌∙◌, ⊎_elim, mul-add, arith}
+use Rattle.std.proofs.Common.{◌≡◌, ℕ, zero, suc, ◌+◌, ◌-◌, ◌*◌, ◌<◌, ◌≤◌, leb, List, slice_index, sym, ap, ◌∙◌, ⊎_elim, mul-add, arith}
 use Rattle.std.proofs.lemmas.Bool.{cases_lt, cond-true, le-leb}
-use Rattle.charge.specs.Below.{sum_below}
 use Rattle.charge.specs.Charges.{charge_at, distances}
 use Rattle.charge.specs.Laws.{DifferencesWhole, StrandsAddUp}
 use Rattle.charge.specs.Strands.{back, second_difference}
+use Rattle.charge.proofs.Below.{sum_below, sum_below_is}
 use Rattle.charge.proofs.Rising.{within_row}
 
 back_at : (p : List ℕ) (m i j : ℕ) → j + i ≡ m → back p m i ≡ charge_at p j
@@ -26,8 +26,8 @@ differences_whole p fair (suc (suc j)) h =
       within_row p j (omega arith),
       within_row p (suc j) (omega arith),
       within_row p (suc (suc j)) (omega arith),
-      ap (λ i. get_or p i 0) one,
-      ap (λ i. get_or p i 0) two,
+      ap (λ i. slice_index p i) one,
+      ap (λ i. slice_index p i) two,
     )
 
 module _ (f s : ℕ → ℕ) (top : ℕ)
@@ -67,4 +67,4 @@ strands_add_up p fair k d h few =
     λ j l. omega (arith, differences_whole p fair (suc (suc j)) (omega arith), back_at p (suc (suc j)) 1 (suc j) (omega arith), back_at p (suc (suc j)) 2 j (omega arith)) in
     let one : suc d ≡ d + 1 = omega arith in
     sym (adds_up f s distances (omega arith) next rest d (omega arith)) ∙ sym (past f s distances (omega arith) next rest d k h)
-    ∙ ap (λ m. sum_below k (λ j. s j * (m - j))) one
+    ∙ ap (λ m. sum_below k (λ j. s j * (m - j))) one ∙ sum_below_is k (λ j. s j * ((d + 1) - j))

@@ -1,5 +1,5 @@
 -- Placements, and what they cost.
-use Rattle.std.specs.Prelude.{ℕ, ◌-◌, ◌*◌, ◌<◌, cond, List, sum_by, nat_le, slice_index}
+use Rattle.std.specs.Prelude.{ℕ, ◌-◌, ◌*◌, ◌<◌, List, sum_by, if◌then◌else◌, nat_le, slice_index}
 use Rattle.sheet.specs.Books.{Book}
 use Rattle.sheet.specs.declared.row.Row.{Row}
 use Rattle.charge.specs.Charges.{charge_at}
@@ -18,7 +18,7 @@ Placement b l = (v : ℕ) → v < b.n → l v < b.k
 
 -- For a row from u to v let d = l(u) − l(v): the row costs count × p(d) where d ≥ 0, and nothing otherwise.
 abbrev pub row_cost : List ℕ → Levels → Row → ℕ
-row_cost p l r = cond (nat_le (l r.second) (l r.first)) (r.count * charge_at p (l r.first - l r.second)) 0
+row_cost p l r = if nat_le (l r.second) (l r.first) then r.count * charge_at p (l r.first - l r.second) else 0
 
 -- The cost is the sum over all rows.
 abbrev pub cost : Book → List ℕ → Levels → ℕ

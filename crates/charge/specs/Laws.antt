@@ -1,8 +1,8 @@
 -- Laws of charges, costs and best placements, in the subject's words.
-use Rattle.std.specs.Prelude.{◌≡◌, ℕ, ◌+◌, ◌-◌, ◌*◌, ◌<◌, ◌≤◌, List, length, take, Decides, sum_by}
+use Rattle.std.specs.Prelude.{◌≡◌, ℕ, ◌+◌, ◌-◌, ◌*◌, ◌<◌, ◌≤◌, ◌↔◌, List, map, length, take, sum, sum_by, IsTrue}
+use Rattle.std.specs.List.{range_with_len}
 use Rattle.sheet.specs.Books.{AlarmsKnown, Book, Sound, max_rows}
 use Rattle.sheet.specs.Rows.{max_count}
-use Rattle.charge.specs.Below.{sum_below}
 use Rattle.charge.specs.Best.{Best}
 use Rattle.charge.specs.Charges.{Convex, Fair, Small, charge_at, distances, max_charge, plain}
 use Rattle.charge.specs.Costs.{Levels, Placement, cost}
@@ -26,16 +26,17 @@ DifferencesWhole = (p : List ℕ) → Fair p → (j : ℕ) → j < distances →
 
 -- The charge of a distance is the sum of its strands: p(d) = Σ over j < k of (p(j) − 2·p(j−1) + p(j−2)) · ((d + 1) ∸ j), where ∸ stops at 0.
 abbrev pub StrandsAddUp : Type 0
-StrandsAddUp = (p : List ℕ) → Fair p → (k d : ℕ) → d < k → k ≤ distances → charge_at p d ≡ sum_below k (λ j. second_difference p j * ((d + 1) - j))
+StrandsAddUp =
+    (p : List ℕ) → Fair p → (k d : ℕ) → d < k → k ≤ distances → charge_at p d ≡ sum (map (λ j. second_difference p j * ((d + 1) - j)) (range_with_len 0 k))
 
 -- The tests in the causes of fit decide what they are named after.
 pub record TestsDecide : Type 0 where
-  pub small : (p : List ℕ) → Decides (small p) (Small p)
-  pub convex : (p : List ℕ) → Decides (convex p) (Convex p)
+  pub small : (p : List ℕ) → IsTrue (small p) ↔ Small p
+  pub convex : (p : List ℕ) → IsTrue (convex p) ↔ Convex p
 
 -- The test in the causes of price decides what a placement is.
 abbrev pub PlacedDecides : Type 0
-PlacedDecides = (b : Book) (l : Levels) → Decides (placed b l) (Placement b l)
+PlacedDecides = (b : Book) (l : Levels) → IsTrue (placed b l) ↔ Placement b l
 
 -- Levels that are all equal cost p(0) times the sum of the counts.
 abbrev pub EqualLevelsCost : Type 0

@@ -1,4 +1,3 @@
-pub mod Below
 pub mod Charges
 pub mod Fits
 pub mod OwnRows

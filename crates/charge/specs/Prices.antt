@@ -1,15 +1,15 @@
 -- What price answers.
-use Rattle.std.specs.Prelude.{ℕ, Bool, not, ltb, List, [], ◌∷◌, length, Result, nat_lt}
+use Rattle.std.specs.Prelude.{ℕ, Bool, not, List, [], ◌∷◌, length, Result, nat_lt}
+use Rattle.std.specs.List.{list_all, range_with_len}
 use Rattle.sheet.specs.Books.{Book}
 use Rattle.sheet.specs.Causes.{Cause, ◌if◌, checked, first_cause}
 use Rattle.sheet.specs.declared.fault.Fault.{Fault}
 use Rattle.sheet.specs.declared.fault.Fault.TheVariants.{ShortLevels, LevelBeyondLimit}
 use Rattle.charge.specs.Costs.{Levels, cost, listed}
-use Rattle.charge.specs.Below.{all_below}
 
 -- the test of Placement
 abbrev pub placed : Book → Levels → Bool
-placed b l = all_below b.n (λ v. ltb (l v) b.k)
+placed b l = list_all (λ v. nat_lt (l v) b.k) (range_with_len 0 b.n)
 
 -- the causes to refuse a buffer of levels, in the order in which they win
 abbrev pub price_causes : Book → List ℕ → List (Cause Fault)

@@ -22,7 +22,7 @@ pub trait Charge {
 }
 
 // p(d) = d + 1: with it the cost of a placement is its weighted agony.
-#[derive(Clone, Copy)]
+#[derive(Clone, Copy, Debug, PartialEq, Eq)]
 pub struct Plain;
 
 impl Charge for Plain {
@@ -36,7 +36,7 @@ impl Charge for Plain {
 }
 
 // p(d) = 2 to the power d.
-#[derive(Clone, Copy)]
+#[derive(Clone, Copy, Debug, PartialEq, Eq)]
 pub struct Doubling;
 
 impl Charge for Doubling {
@@ -50,7 +50,7 @@ impl Charge for Doubling {
 }
 
 // p(d) = (d + 1)(d + 2) / 2.
-#[derive(Clone, Copy)]
+#[derive(Clone, Copy, Debug, PartialEq, Eq)]
 pub struct Steep;
 
 impl Charge for Steep {
@@ -58,6 +58,7 @@ impl Charge for Steep {
 
     ghost fair = { Prim.search rules };
 
+    #[tactic(auto, using(crate::proofs::Rising::product_small))]
     fn at(&self, d: u8) -> u8 {
         let d = d.min(MAX_DISTANCE);
         (d + 1) * (d + 2) / 2

@@ -8,27 +8,20 @@ mod tests {
 
     // What a charge answers for 0 to 8.
     fn answers<C: Charge>(charge: &C) -> [u8; 9] {
-        let mut row = [0; 9];
-        for d in 0..9u8 {
-            row[d as usize] = charge.at(d);
-        }
-        row
+        [0, 1, 2, 3, 4, 5, 6, 7, 8].map(|d| charge.at(d))
     }
 
     // The number of a refusal, or 0 where there was none.
     fn number_of<T: Drop>(answer: Result<T, Fault>) -> u8 {
-        match answer {
-            Ok(_) => 0,
-            Err(fault) => fault.number(),
-        }
+        answer.err().map_or(0, |fault| fault.number())
     }
 
     // A sheet with these alarms, limit and rows. No note for it is refused.
     fn sheet_of(alarms: u8, limit: u8, rows: &[(u8, u8, u32)]) -> Sheet {
         let mut sheet = Sheet::new();
         let _ = sheet.open(alarms, limit);
-        for (first, second, count) in rows {
-            let _ = sheet.note(*first, *second, *count);
+        for &(first, second, count) in rows {
+            let _ = sheet.note(first, second, count);
         }
         sheet
     }
@@ -48,9 +41,7 @@ mod tests {
     // The alarms below 16 on level 7, and the others on level 0.
     fn firsts_lowest() -> [u8; 64] {
         let mut levels = [0; 64];
-        for alarm in 0..16 {
-            levels[alarm] = 7;
-        }
+        levels[..16].fill(7);
         levels
     }
 

@@ -5,7 +5,7 @@ use Rattle.charge.proofs.laws.charge_laws.Goals as goal
 
 pub returns : goal.returns
 returns c = record {
-  own_rows_fair = λ own. record { long = own.long; small = own.small; convex = own.convex };
+  own_rows_fair = λ own. own.fair;
   non_decreasing = non_decreasing;
   differences_whole = differences_whole;
   strands_add_up = strands_add_up;
