@@ -1,21 +1,9 @@
 -- The field at a place of an image, by the image's own bytes. Assumes nothing.
-use Rattle.std.proofs.Common.{◌≡◌, ℕ, zero, suc, ◌+◌, ◌*◌, ◌<◌, ◌≤◌, List, [], ◌∷◌, length, get_or, take, drop, refl, ap, arith, rules}
-use Rattle.std.proofs.lemmas.List.{get_or-drop, drop-drop, drop_more}
+use Rattle.std.proofs.Common.{◌≡◌, ℕ, zero, suc, ◌+◌, ◌<◌, ◌≤◌, List, [], ◌∷◌, length, drop, refl, ap, arith, rules}
+use Rattle.std.proofs.lemmas.List.{drop-drop, drop_more}
 use Rattle.std.proofs.lemmas.Grind.{common_steps}
 use Rattle.std.proofs.lemmas.Bool.Decides.{nat_tests}
-use Rattle.image_format.specs.Fields.{Item, whole, short, size, item, items}
-
-abbrev pub size_at : List ℕ → ℕ → ℕ
-size_at image at = get_or image (at + 1) 0 * 256 + get_or image (at + 2) 0
-
-pub size_drop : (image : List ℕ) (at : ℕ) → size (drop at image) ≡ size_at image at
-size_drop image at = simp get_or-drop
-
-pub item_short : (image : List ℕ) (at : ℕ) → length image < at + 3 + size_at image at → short ≡ item (drop at image)
-item_short image at h = grind (arith, nat_tests, common_steps)
-
-pub item_whole : (image : List ℕ) (at : ℕ) → at + 3 + size_at image at ≤ length image → whole (get_or image at 0) (take (size_at image at) (drop (at + 3) image)) ≡ item (drop at image)
-item_whole image at h = grind (arith, nat_tests, common_steps)
+use Rattle.image_format.specs.Fields.{Item, whole, short, item, items}
 
 pub items_skip : (k : ℕ) (bs : List ℕ) → items k bs ≡ items 0 (drop k bs)
 items_skip zero bs = refl

@@ -1,7 +1,5 @@
 pub mod Items
 pub mod Rules
-pub mod NameTests
-pub mod OneField
 pub mod Whole
 pub mod Shapes
 pub mod Accepts
