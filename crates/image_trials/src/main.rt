@@ -7,7 +7,7 @@ mod images;
 use anyhow::Result;
 use cases::Case;
 use image::load;
-use sheet::{Row, Sheet};
+use sheet::Sheet;
 use std::alloc::Global;
 use std::fmt::Display;
 use std::io;
@@ -34,16 +34,6 @@ fn held() -> Sheet {
     sheet
 }
 
-// Tells whether a sheet is the held one.
-fn is_held(sheet: &Sheet) -> bool {
-    let rows = [Row {
-        first: 0,
-        second: 1,
-        count: 7,
-    }];
-    sheet.alarms() == 2 && sheet.limit() == 2 && sheet.rows() == rows.as_slice()
-}
-
 // Prints what a load of the image into the held sheet answers.
 fn show(rt: &impl Print, label: impl Display + Drop, image: &[u8]) -> io::Result<()> {
     let mut sheet = held();
@@ -53,7 +43,7 @@ fn show(rt: &impl Print, label: impl Display + Drop, image: &[u8]) -> io::Result
             let rows = sheet.rows().len();
             println!(rt; "  {label}: {notes} notes, {alarms} alarms, {rows} rows")
         }
-        Err(fault) if is_held(&sheet) => println!(rt; "  {label}: {fault}"),
+        Err(fault) if sheet == held() => println!(rt; "  {label}: {fault}"),
         Err(_) => println!(rt; "  {label}: SHEET CHANGED"),
     }
 }

@@ -39,10 +39,14 @@ noted u v c rs = if is_some (lookup u v rs) then (raise_at u v c rs) else (rs ++
 abbrev pub without : ℕ → ℕ → List Row → List Row
 without u v rs = filter (λ r. not (is_of u v r)) rs
 
--- the counts of the rows in which the alarm comes first, added up
-abbrev pub total_first : ℕ → List Row → ℕ
-total_first u rs = sum_by (λ r. if r.first == u then r.count else 0) rs
+-- the counts of the rows that have the alarm on a side, added up
+abbrev pub total_at : (side : Row → ℕ) → ℕ → List Row → ℕ
+total_at side u rs = sum_by (λ r. if side r == u then r.count else 0) rs
 
--- and of those in which it comes second
+-- where it comes first,
+abbrev pub total_first : ℕ → List Row → ℕ
+total_first u rs = total_at (λ r. r.first) u rs
+
+-- and where it comes second
 abbrev pub total_second : ℕ → List Row → ℕ
-total_second u rs = sum_by (λ r. if r.second == u then r.count else 0) rs
+total_second u rs = total_at (λ r. r.second) u rs

@@ -8,7 +8,7 @@ use crate::fault::Fault;
 use crate::row::Row;
 use crate::table::Table;
 
-#[derive(Drop)]
+#[derive(Drop, Debug, PartialEq, Eq)]
 pub struct Sheet {
     table: Table,
     ghost sound: { Sound (table_book table) },

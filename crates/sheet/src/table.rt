@@ -13,7 +13,7 @@ pub const MAX_LIMIT: u8 = 8;
 
 pub const MAX_ROWS: usize = 512;
 
-#[derive(Drop)]
+#[derive(Drop, Debug, PartialEq, Eq)]
 pub(crate) struct Table {
     pub(crate) alarms: u8,
     pub(crate) limit: u8,
