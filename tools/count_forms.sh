@@ -49,7 +49,7 @@ echo "7. Switches on which step to run"
 find_in "  matches on a stage or a step" 'match \*?(self\.stage|step|self) ' $src
 
 echo "8. Proofs"
-printf '  files: %s\n' "$(find crates -path '*/proofs/*' -name '*.antt' | wc -l)"
-printf '  lines: %s\n' "$(find crates -path '*/proofs/*' -name '*.antt' -exec cat {} + | wc -l)"
-printf '  answers: %s\n' "$(find crates -path '*/proofs/*' -name Answers.antt -exec grep -hE '^pub ' {} + | wc -l)"
-printf '  older words: %s\n' "$(grep -rhowE --include=*.antt --include=*.rt 'Decides|eqb|leb|ltb|cond|get_or' crates | wc -l)"
+printf '  files: %s\n' "$(find crates -not -path '*/out/*' -path '*/proofs/*' -name '*.antt' | wc -l)"
+printf '  lines: %s\n' "$(find crates -not -path '*/out/*' -path '*/proofs/*' -name '*.antt' -exec cat {} + | wc -l)"
+printf '  answers and invariants: %s\n' "$(find crates -not -path '*/out/*' -path '*/proofs/*' \( -name Answers.antt -o -name Invariants.antt \) -exec grep -hE '^(abbrev )?pub ' {} + | wc -l)"
+printf '  older words in clauses and definitions: %s\n' "$(grep -rhowE --include=*.antt --include=*.rt 'Decides|eqb|leb|ltb|cond|get_or' crates/*/src crates/*/specs | wc -l)"

@@ -20,5 +20,5 @@ number_of NotConvex = 24
 number_of LevelBeyondLimit = 26
 
 -- `refused ` and the number in decimal
-abbrev pub told : Fault → List ℕ
-told f = codes "refused " ++ decimal (number_of f)
+abbrev pub fault_text : Fault → List ℕ
+fault_text f = codes "refused " ++ decimal (number_of f)

@@ -1,6 +1,6 @@
 // Why a call is refused.
 ghost use Rattle.std.specs.Prelude.{◌≡◌, Some};
-ghost use Rattle.sheet.specs.Numbers.{number_of, told};
+ghost use Rattle.sheet.specs.Numbers.{number_of, fault_text};
 
 use std::error::Error;
 use std::fmt;
@@ -49,7 +49,7 @@ impl Fault {
 }
 
 impl fmt::Display for Fault {
-    ghost output = { λ f. Some (told f) };
+    ghost output = { λ f. Some (fault_text f) };
 
     fn fmt<W: fmt::Write>(&self, f: &mut fmt::Formatter<W>) -> fmt::Result {
         write!(f, "refused {}", self.number())
