@@ -25,13 +25,15 @@ pub(crate) trait Source: Sized {
         ensures { took result self.new (book_of sheet.new) ≡ value_taken kind self.old (book_of sheet.old) value.now };
 }
 
+const NOTE_TAG: u8 = 3;
+
 impl Source for Counts {
     ghost kind = { counts };
 
     ghost apart = { le_refl 3 };
 
     fn tag() -> u8 {
-        3
+        NOTE_TAG
     }
 
     fn take(&mut self, sheet: &mut Sheet, value: &[u8]) -> Result<(), ImageCause> {

@@ -10,7 +10,6 @@ ghost use Rattle.image_summary.specs.Summaries.{FitsTop, SumsUp, all_on_top, top
 use charge::{Plain, price};
 use image::{MAX_IMAGE, load};
 use image_format::ImageFault;
-use listing::complain;
 use sheet::{Fault, MAX_ALARMS, Sheet};
 use std::io::Read;
 use std::{fmt, io};
@@ -68,13 +67,6 @@ fn summarize(image: &[u8]) -> Result<Summary, ImageFault>
     })
 }
 
-// Prints the line that tells a refusal.
-fn print_complaint(rt: &impl Print, fault: &ImageFault) -> io::Result<()> {
-    let mut line = [0; 64];
-    let length = complain(fault, &mut line).unwrap_or(0);
-    rt.write_all(&line[..length])
-}
-
 fn main(rt: HostRuntime) -> io::Result<()> {
     let mut image = Vec::new(rt.alloc());
     rt.stdin()
@@ -82,6 +74,6 @@ fn main(rt: HostRuntime) -> io::Result<()> {
         .read_to_end(&mut image)?;
     match summarize(&image) {
         Ok(summary) => println!(rt; "{summary}"),
-        Err(fault) => print_complaint(&rt, &fault),
+        Err(fault) => println!(rt; "{fault}"),
     }
 }

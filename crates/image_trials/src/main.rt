@@ -7,8 +7,9 @@ mod images;
 use anyhow::Result;
 use cases::Case;
 use image::load;
+use image_format::ImageFault;
+use listing::complain;
 use sheet::Sheet;
-use std::alloc::Global;
 use std::fmt::Display;
 use std::io;
 
@@ -34,6 +35,18 @@ fn held() -> Sheet {
     sheet
 }
 
+// Prints the line that complains of a fault.
+fn print_complaint(
+    rt: &impl Print,
+    label: impl Display + Drop,
+    fault: &ImageFault,
+) -> io::Result<()> {
+    let mut line = [0; 40];
+    let length = complain(fault, &mut line).unwrap_or(0);
+    let text = str::from_utf8(&line[..length]).unwrap_or("NO TEXT\n");
+    print!(rt; "  {label}: {text}")
+}
+
 // Prints what a load of the image into the held sheet answers.
 fn show(rt: &impl Print, label: impl Display + Drop, image: &[u8]) -> io::Result<()> {
     let mut sheet = held();
@@ -43,7 +56,7 @@ fn show(rt: &impl Print, label: impl Display + Drop, image: &[u8]) -> io::Result
             let rows = sheet.rows().len();
             println!(rt; "  {label}: {notes} notes, {alarms} alarms, {rows} rows")
         }
-        Err(fault) if sheet == held() => println!(rt; "  {label}: {fault}"),
+        Err(fault) if sheet == held() => print_complaint(rt, label, &fault),
         Err(_) => println!(rt; "  {label}: SHEET CHANGED"),
     }
 }
@@ -55,31 +68,30 @@ fn show_sized(rt: &impl Print, image: &[u8], remark: &str) -> io::Result<()> {
 
 // Shows each case of a group, under the group's heading.
 fn show_group(
-    rt: &impl Print,
-    alloc: Global,
+    rt: &(impl Print + AllocGlobal),
     heading: &str,
     front: &str,
     cases: &[Case],
 ) -> Result<()> {
     println!(rt; "{heading}")?;
     for (label, rest) in cases {
-        show(rt, label, &images::joined(alloc, front, rest)?)?;
+        show(rt, label, &images::joined(rt.alloc(), front, rest)?)?;
     }
     Ok(())
 }
 
 // Shows the groups of short images.
-fn show_groups(rt: &impl Print, alloc: Global) -> Result<()> {
+fn show_groups(rt: &(impl Print + AllocGlobal)) -> Result<()> {
     for (heading, front, cases) in cases::GROUPS {
-        show_group(rt, alloc, heading, front, cases)?;
+        show_group(rt, heading, front, cases)?;
     }
     Ok(())
 }
 
 // Shows the front of the ring's image, of each length.
-fn show_fronts(rt: &impl Print, alloc: Global) -> Result<()> {
+fn show_fronts(rt: &(impl Print + AllocGlobal)) -> Result<()> {
     println!(rt; "The front of the ring")?;
-    let image = images::joined(alloc, cases::RING, "")?;
+    let image = images::joined(rt.alloc(), cases::RING, "")?;
     for length in 0..=image.len() {
         show_sized(rt, &image[..length], "")?;
     }
@@ -88,44 +100,43 @@ fn show_fronts(rt: &impl Print, alloc: Global) -> Result<()> {
 
 // Shows the ring's image with other bytes from a place in one of its fields on.
 fn show_edit(
-    rt: &impl Print,
-    alloc: Global,
+    rt: &(impl Print + AllocGlobal),
     field: u8,
     part: u8,
     bytes: &[u8],
     what: &str,
 ) -> Result<()> {
-    let mut image = images::joined(alloc, cases::RING, "")?;
+    let mut image = images::joined(rt.alloc(), cases::RING, "")?;
     images::overwrite(&mut image, usize::from(field) + usize::from(part), bytes);
     show(rt, format_args!("field at {field}, {what}"), &image)?;
     Ok(())
 }
 
 // Shows the ring's image with a bit of one field's tag or length the other way round.
-fn show_headers(rt: &impl Print, alloc: Global) -> Result<()> {
+fn show_headers(rt: &(impl Print + AllocGlobal)) -> Result<()> {
     println!(rt; "The ring with one header changed")?;
     for (field, tag, length) in RING_FIELDS {
-        show_edit(rt, alloc, field, 0, &[tag ^ 4], "tag flipped")?;
-        show_edit(rt, alloc, field, 2, &[length ^ 1], "length flipped")?;
-        show_edit(rt, alloc, field, 1, &[1], "length raised by 256")?;
+        show_edit(rt, field, 0, &[tag ^ 4], "tag flipped")?;
+        show_edit(rt, field, 2, &[length ^ 1], "length flipped")?;
+        show_edit(rt, field, 1, &[1], "length raised by 256")?;
     }
     Ok(())
 }
 
 // Shows the ring's image with one count that no note may have.
-fn show_counts(rt: &impl Print, alloc: Global) -> Result<()> {
+fn show_counts(rt: &(impl Print + AllocGlobal)) -> Result<()> {
     println!(rt; "The ring with one count changed")?;
     for field in RING_NOTES {
-        show_edit(rt, alloc, field, 5, &[0x7f, 0xff], "counter pinned")?;
-        show_edit(rt, alloc, field, 5, &[0, 0], "count 0")?;
+        show_edit(rt, field, 5, &[0x7f, 0xff], "counter pinned")?;
+        show_edit(rt, field, 5, &[0, 0], "count 0")?;
     }
     Ok(())
 }
 
 // Shows images with as many names as there may be, with one more, and with a name whose length takes two bytes.
-fn show_names(rt: &impl Print, alloc: Global) -> Result<()> {
+fn show_names(rt: &(impl Print + AllocGlobal)) -> Result<()> {
     println!(rt; "Many names and a long one")?;
-    let mut image = images::named(alloc, 64)?;
+    let mut image = images::named(rt.alloc(), 64)?;
     show(rt, "64 names", &image)?;
     images::push_field(&mut image, 2, b"00")?;
     show(rt, "64 names and the first again", &image)?;
@@ -133,18 +144,18 @@ fn show_names(rt: &impl Print, alloc: Global) -> Result<()> {
     show(rt, "64 names and one with byte 31", &image)?;
     images::overwrite(&mut image, 326, &[0]);
     show(rt, "64 names and one of no bytes", &image)?;
-    show(rt, "65 names", &images::named(alloc, 65)?)?;
-    let mut image = images::joined(alloc, cases::LIMIT, "")?;
+    show(rt, "65 names", &images::named(rt.alloc(), 65)?)?;
+    let mut image = images::joined(rt.alloc(), cases::LIMIT, "")?;
     images::push_field(&mut image, 2, &[b'P'; 257])?;
     show(rt, "a name of 257 bytes", &image)?;
     Ok(())
 }
 
 // Shows images as long as they may be, and one byte longer.
-fn show_long(rt: &impl Print, alloc: Global) -> Result<()> {
+fn show_long(rt: &(impl Print + AllocGlobal)) -> Result<()> {
     println!(rt; "Long images")?;
-    show_sized(rt, &images::long(alloc, b"Pump 2")?, "")?;
-    let mut image = images::long(alloc, b"Pump 22")?;
+    show_sized(rt, &images::long(rt.alloc(), b"Pump 2")?, "")?;
+    let mut image = images::long(rt.alloc(), b"Pump 22")?;
     show_sized(rt, &image, "")?;
     images::overwrite(&mut image, 0, &[9]);
     show_sized(rt, &image, ", the first of them 9")?;
@@ -152,24 +163,23 @@ fn show_long(rt: &impl Print, alloc: Global) -> Result<()> {
 }
 
 // Shows images with as many pairs as there may be, and with one more.
-fn show_pairs(rt: &impl Print, alloc: Global) -> Result<()> {
+fn show_pairs(rt: &(impl Print + AllocGlobal)) -> Result<()> {
     println!(rt; "Many pairs")?;
-    let mut image = images::paired(alloc, 512)?;
+    let mut image = images::paired(rt.alloc(), 512)?;
     show(rt, "512 pairs", &image)?;
     images::push_note(&mut image, 0, 32)?;
     show(rt, "512 pairs and the first again", &image)?;
-    show(rt, "513 pairs", &images::paired(alloc, 513)?)?;
+    show(rt, "513 pairs", &images::paired(rt.alloc(), 513)?)?;
     Ok(())
 }
 
 // Shows every kind of image in turn.
 fn main(rt: HostRuntime) -> Result<()> {
-    let alloc = rt.alloc();
-    show_groups(&rt, alloc)?;
-    show_fronts(&rt, alloc)?;
-    show_headers(&rt, alloc)?;
-    show_counts(&rt, alloc)?;
-    show_names(&rt, alloc)?;
-    show_long(&rt, alloc)?;
-    show_pairs(&rt, alloc)
+    show_groups(&rt)?;
+    show_fronts(&rt)?;
+    show_headers(&rt)?;
+    show_counts(&rt)?;
+    show_names(&rt)?;
+    show_long(&rt)?;
+    show_pairs(&rt)
 }
