@@ -33,7 +33,7 @@ find_in "  while" '^\s*while ' $src
 find_in "  other for" '^\s*for [^;]* in [^.;{]*(\.[a-z_]+\([^)]*\))*[^.;{]*\{' $src
 
 echo "4. Equality, order, copying, conversion and printing by hand"
-find_in "  casts" '[])a-z0-9_}] as (u8|u16|u32|u64|usize)\b' $src
+find_in "  casts" '[])a-zA-Z0-9_}] as (u8|u16|u32|u64|usize)\b' $src
 find_in "  functions that compare" 'fn (is_of|same_[a-z]+|is_held|eq|cmp)\b' $src
 find_in "  functions that convert" 'fn (narrowed|note_in|number|number_of|digit_of|push_hex|digits)\b' $src
 find_in "  functions that print text piece by piece" 'fn (put[a-z_]*|line_length|print_complaint)\b' $src
