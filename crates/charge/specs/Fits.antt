@@ -6,11 +6,11 @@ use Rattle.sheet.specs.declared.fault.Fault.{Fault}
 use Rattle.sheet.specs.declared.fault.Fault.TheVariants.{ChargeLength, ChargeTooLarge, NotConvex}
 use Rattle.charge.specs.Charges.{distances, max_charge}
 
--- the test of Small
+-- the test of Small: at each of the distances 0 to 7
 abbrev pub small : List ℕ → Bool
 small p = list_all (λ d. nat_le (slice_index p d) max_charge) (range_with_len 0 distances)
 
--- the test of Convex
+-- the test of Convex: at the start, and for j from 0 to 5
 abbrev pub convex : List ℕ → Bool
 convex p =
     nat_le (2 * slice_index p 0) (slice_index p 1)

@@ -7,7 +7,7 @@ use Rattle.sheet.specs.declared.fault.Fault.{Fault}
 use Rattle.sheet.specs.declared.fault.Fault.TheVariants.{ShortLevels, LevelBeyondLimit}
 use Rattle.charge.specs.Costs.{Levels, cost, listed}
 
--- the test of Placement
+-- the test of Placement: for each of the alarms 0 to n − 1
 abbrev pub placed : Book → Levels → Bool
 placed b l = list_all (λ v. nat_lt (l v) b.k) (range_with_len 0 b.n)
 

@@ -13,9 +13,11 @@ use Rattle.image.specs.declared.reading.Noting.{Noting}
 use Rattle.image.specs.declared.reading.Reading.{Reading}
 use Rattle.image.specs.declared.reading.Reading.TheVariants.{Start, Naming as InNaming, Noting as InNoting}
 
+-- the names so far
 abbrev pub names_of : {S : Type 0} → Naming S → List (List ℕ)
 names_of n = map (λ x. x.now) n.names.items
 
+-- the state that each part of a reading stands for
 abbrev pub naming_of : {S : Type 0} → Naming S → State S
 naming_of n = naming n.source (book_of n.sheet).k (names_of n)
 
@@ -61,6 +63,7 @@ behind (start s) = None
 behind (naming s k names) = if nat_lt 0 (length names) then Some (s, opened (length names) k, 0) else None
 behind (noting s b m) = Some (s, b, m)
 
+-- what the format says of a value behind the names, or that none may stand there
 abbrev pub noted_behind : {S : Type 0} → Kind S → Option (S × Book × ℕ) → List ℕ → Result (State S) ImageCause
 noted_behind K None v = Err Tag
 noted_behind K (Some x) v = note_told K x v

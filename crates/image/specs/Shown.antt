@@ -21,9 +21,11 @@ placed p [] = []
 placed p (short ∷ is) = Err (record { cause = CutShort; place = p }) ∷ []
 placed p (whole t v ∷ is) = Ok (record { place = p; tag = t; value = v }) ∷ placed (p + (3 + length v)) is
 
+-- a field of the code, or the refusal in its place
 abbrev pub shown : Result Field ImageFault → Result Placed ImageFault
 shown r = result_map_both (λ f. record { place = f.place; tag = f.tag; value = f.value.now }) (λ f. f) r
 
+-- what an iterator over fields still has to give
 abbrev pub fields_left : Fields → List (Result Placed ImageFault)
 fields_left s = placed s.place (items 0 s.rest.now)
 

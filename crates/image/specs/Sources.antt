@@ -7,6 +7,7 @@ use Rattle.image_format.specs.declared.fault.ImageCause.{ImageCause}
 use Rattle.image_format.specs.declared.fault.ImageCause.TheVariants.{Length, Sheet}
 use Rattle.image_format.specs.Images.{Kind}
 
+-- the source and the book that a call leaves, or its refusal
 abbrev pub took : {S : Type 0} → Result (Unit {0}) ImageCause → S → Book → Result (S × Book) ImageCause
 took (Ok u) s b = Ok (s, b)
 took (Err c) s b = Err c
