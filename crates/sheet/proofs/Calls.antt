@@ -1,5 +1,7 @@
 -- From what a change does to the rows to what the call does to the book. Assumes nothing.
 use Rattle.std.proofs.Common.{◌≡◌, ℕ, ◌+◌, not, nat_lt, nat_le, [], ◌∷◌, ◌++◌, length, set, is_some, if◌then◌else◌, Some, None, Ok, Err, Option, Result, OnOk, OnErr, IfSome, IfNone, sym, refl, ap, ◌∙◌, subst}
+use Rattle.std.proofs.Props.{props}
+use mathlib.Core.HLevel.{is_prop→PathP}
 use Rattle.std.specs.List.{remove, position}
 use Rattle.std.proofs.lemmas.Bool.{cond-true, cond-false}
 use Rattle.std.proofs.lemmas.List.Quantifiers.{position-Some}
@@ -8,16 +10,29 @@ use Rattle.sheet.specs.Calls.{Call, Does, notes, strikes, accepted, count_causes
 use Rattle.sheet.specs.Causes.{checked, first_cause, ◌if◌, refused_if}
 use Rattle.sheet.specs.Rows.{blank, is_of, lookup, raised, row}
 use Rattle.sheet.specs.Sheets.{book_of}
+use Rattle.sheet.specs.Tables.{table_book}
 use Rattle.sheet.specs.declared.fault.Fault.{Fault}
 use Rattle.sheet.specs.declared.fault.Fault.TheVariants.{CountOverflow, Full, NoRow}
 use Rattle.sheet.specs.declared.sheet.Sheet.{Sheet}
+use Rattle.sheet.specs.declared.table.Table.{Table}
 use Rattle.sheet.proofs.Books.{only_here, sound_next}
 use Rattle.sheet.proofs.Causes.{checked_free, checked_value, first_cause_past}
 use Rattle.sheet.proofs.Rows.{Only, lookup_none, lookup_only, raise_only, without_only}
 
+-- A sheet is its table: the fact that it carries has but one proof.
+pub same_sheet : (s s' : Sheet) → s.table ≡ s'.table → s ≡ s'
+same_sheet s s' e = λ i. record {
+  table = e i;
+  sound = is_prop→PathP (λ j. Sound (table_book (e j))) (λ j. hlevel props) s.sound s'.sound i;
+}
+
 -- After a call the book is sound again.
 pub sound_does : (s : Sheet) (c : Call) (r : Result (Unit {0}) Fault) (b : Book) → Does (book_of s) c r b → Sound b
 sound_does s c r b does = subst Sound (sym does.leaves) (sound_next (book_of s) s.sound c)
+
+-- After a call the table is again one of a sheet.
+pub facts_after : (s : Sheet) (c : Call) (r : Result (Unit {0}) Fault) (u : Table) → Does (table_book s.table) c r (table_book u) → Sound (table_book u)
+facts_after s c r u does = sound_does s c r (table_book u) does
 
 -- A change that is refused for the call's cause, and else leaves the accepted book, does what the call does.
 module _ (b b' : Book) (c : Call) (r : Result (Unit {0}) Fault) where

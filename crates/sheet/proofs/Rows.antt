@@ -1,7 +1,6 @@
 -- How look-up, raising and removal act on lists of rows. Assumes nothing.
-use Rattle.std.proofs.Common.{◌≡◌, ℕ, zero, suc, ◌<◌, ◌≤◌, true, false, not, ◌≢◌, List, [], ◌∷◌, ◌++◌, length, get_or, set, take, Some, None, refl, ap, ◌∙◌, append-nil, arith}
-use Rattle.std.specs.List.{position, position_or_len, refill, remove}
-use Rattle.std.proofs.lemmas.List.{drop_all, length-set, take_all}
+use Rattle.std.proofs.Common.{◌≡◌, ℕ, zero, suc, ◌<◌, ◌≤◌, true, false, not, ◌≢◌, List, [], ◌∷◌, length, get_or, set, Some, None, refl, ap, ◌∙◌, arith}
+use Rattle.std.specs.List.{position, position_or_len, remove}
 use Rattle.std.proofs.lemmas.List.Sums.{fails_before_first}
 use Rattle.std.proofs.lemmas.Bool.{cond-true, cond-false, not_from_true, not_from_false}
 use Rattle.std.proofs.lemmas.Bool.Decides.{nat_tests}
@@ -88,10 +87,3 @@ module _ (u v : ℕ) where
   lookup_none rs e =
       let past : length rs ≤ position_or_len (is_of u v) rs = grind (arith, nat_tests) in
       lookup_absent rs (λ k h. fails_before_first (is_of u v) rs k blank (omega arith))
-
--- a slice of all the rows, with one of them written, put back
-pub refilled : (rs : List Row) (i : ℕ) (r : Row) → refill (length rs) rs (set rs i r) ≡ set rs i r
-refilled rs i r =
-    let long = length-set rs i r in
-    ap (λ xs. take (length rs) (set rs i r ++ xs)) (drop_all (length (set rs i r)) rs (omega arith))
-    ∙ ap (take (length rs)) (append-nil (set rs i r)) ∙ take_all (length rs) (set rs i r) (omega arith)

@@ -5,19 +5,17 @@ ghost use Rattle.sheet.specs.Calls.{count_causes};
 
 use crate::fault::Fault;
 use crate::row::{MAX_COUNT, Row};
-use arrayvec::ArrayVec;
+use crate::row_array::Rows;
 
 pub const MAX_ALARMS: u8 = 64;
 
 pub const MAX_LIMIT: u8 = 8;
 
-pub const MAX_ROWS: usize = 512;
-
 #[derive(Drop, Debug, PartialEq, Eq)]
 pub(crate) struct Table {
     pub(crate) alarms: u8,
     pub(crate) limit: u8,
-    pub(crate) rows: ArrayVec<Row, MAX_ROWS>,
+    pub(crate) rows: Rows,
 }
 
 impl Table {
@@ -35,7 +33,7 @@ impl Table {
         Table {
             alarms,
             limit,
-            rows: ArrayVec::new(),
+            rows: Rows::new(),
         }
     }
 
@@ -82,7 +80,10 @@ impl Table {
     fn find(&self, first: u8, second: u8) -> Option<usize>
         ensures { result ≡ position (is_of first second) (table_book self.now).rows }
     {
-        self.rows.iter().position(|row| row.is_of(first, second))
+        self.rows
+            .as_slice()
+            .iter()
+            .position(|row| row.is_of(first, second))
     }
 
     // Takes out the row at a place, if there is one.
@@ -109,15 +110,12 @@ impl Table {
         self.check_pair(first, second)?;
         let count = true_count(count)?;
         match self.find(first, second) {
-            Some(at) => self.rows[at].raise(count),
-            None => self
-                .rows
-                .try_push(Row {
-                    first,
-                    second,
-                    count,
-                })
-                .map_err(|_| Fault::Full),
+            Some(at) => self.rows.raise(at, count),
+            None => self.rows.push(Row {
+                first,
+                second,
+                count,
+            }),
         }
     }
 
