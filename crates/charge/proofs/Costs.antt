@@ -1,12 +1,12 @@
 -- How large a cost can be, what it depends on, and that there is one best placement. Assumes nothing.
-use Rattle.std.proofs.Common.{◌≡◌, ℕ, ◌+◌, ◌-◌, ◌*◌, ◌^◌, ◌<◌, ◌≤◌, true, false, nat_lt, nat_le, ◌⊎◌, List, [], ◌∷◌, length, slice_index, All, sum_by, sym, ap, ◌∙◌, mul_comm, mul-add, arith}
+use Rattle.std.proofs.Common.{◌≡◌, ℕ, ◌+◌, ◌-◌, ◌*◌, ◌^◌, ◌<◌, ◌≤◌, ◌↔◌, Bool, IsTrue, true, false, nat_lt, nat_le, ◌⊎◌, List, [], ◌∷◌, length, slice_index, All, sum_by, sym, ap, ◌∙◌, mul_comm, mul-add, arith}
 use Rattle.std.proofs.lemmas.Nat.{mul-le}
 use Rattle.std.proofs.lemmas.List.{get_or-take}
 use Rattle.std.proofs.lemmas.List.Elements.{All-head, All-tail, All-weaker}
 use Rattle.std.proofs.lemmas.List.Sums.{sum_by-cons, sum_by-le}
 use Rattle.std.proofs.lemmas.Bool.{cond_both, cond-true, le-leb, le-ltb, leb-false, leb-true}
 use Rattle.std.proofs.lemmas.Bool.Decides.{Decides-like, Decides-ltb, same_from_decides}
-use Rattle.sheet.specs.Books.{Known, TrueCount, max_rows}
+use Rattle.sheet.specs.Books.{Book, Known, TrueCount, max_rows}
 use Rattle.sheet.specs.Rows.{max_count}
 use Rattle.sheet.specs.Sheets.{book_of}
 use Rattle.sheet.specs.declared.row.Row.{Row}
@@ -26,6 +26,10 @@ row_cost_small p fair l r small =
 
 pub placed_decides : PlacedDecides
 placed_decides b l = list_all_below b.n (λ v. nat_lt (l v) b.k) (λ v. l v < b.k) (λ v. Decides-ltb (l v) b.k)
+
+-- another test that decides the same has the same answer
+pub placed_is : (b : Book) (l : Levels) (r : Bool) → (IsTrue r ↔ Placement b l) → placed b l ≡ r
+placed_is b l r h = same_from_decides (placed b l) r (placed_decides b l) h
 
 -- sums of which each term of one is c times that of the other
 scaled : {X : Type 0} (f g : X → ℕ) (c : ℕ) (xs : List X) → All (λ x. f x ≡ c * g x) xs → sum_by f xs ≡ c * sum_by g xs
@@ -49,7 +53,7 @@ rest_ignored b p ls ms known long long' e =
     let same : (v : ℕ) → v < b.n → listed ls v ≡ listed ms v =
     λ v h. sym (get_or-take b.n ls v 0 h) ∙ ap (λ xs. slice_index xs v) e ∙ get_or-take b.n ms v 0 h in
     let places : placed b (listed ls) ≡ placed b (listed ms) =
-    same_from_decides (placed b (listed ls)) (placed b (listed ms)) (placed_decides b (listed ls))
+    placed_is b (listed ls) (placed b (listed ms))
     (Decides-like (placed b (listed ms)) (λ low v h. omega (arith, same v h, low v h)) (λ low v h. omega (arith, same v h, low v h)) (placed_decides b (listed ms))) in
     let costs = others_ignored b p (listed ls) (listed ms) known same in
     let short = le-ltb (length ls) b.n long in

@@ -1,12 +1,16 @@
 -- The tests of a fit decide what they test. Assumes nothing.
-use Rattle.std.proofs.Common.{◌≡◌, ℕ, ◌+◌, ◌*◌, ◌≤◌, ◌↔◌, IsTrue, nat_le, true, false, ◌⊎◌, List, slice_index}
-use Rattle.std.proofs.lemmas.Bool.Decides.{Decides-and}
+use Rattle.std.proofs.Common.{◌≡◌, ℕ, ◌+◌, ◌*◌, ◌≤◌, ◌↔◌, Bool, IsTrue, nat_le, true, false, ◌⊎◌, List, slice_index}
+use Rattle.std.proofs.lemmas.Bool.Decides.{Decides-and, same_from_decides}
 use Rattle.charge.specs.Charges.{Convex, Small, distances, max_charge}
 use Rattle.charge.specs.Fits.{convex, small}
 use Rattle.charge.proofs.Below.{is_le, list_all_below, tells}
 
 pub small_decides : (p : List ℕ) → IsTrue (small p) ↔ Small p
 small_decides p = list_all_below distances (λ d. nat_le (slice_index p d) max_charge) (λ d. slice_index p d ≤ max_charge) (λ d. is_le (slice_index p d) max_charge)
+
+-- another test that decides the same has the same answer
+pub small_is : (p : List ℕ) (r : Bool) → (IsTrue r ↔ Small p) → small p ≡ r
+small_is p r h = same_from_decides (small p) r (small_decides p) h
 
 pub convex_decides : (p : List ℕ) → IsTrue (convex p) ↔ Convex p
 convex_decides p =

@@ -1,9 +1,9 @@
 -- The field at a place of an image, by the image's own bytes. Assumes nothing.
 use Rattle.std.proofs.Common.{◌≡◌, ℕ, zero, suc, ◌+◌, ◌<◌, ◌≤◌, List, [], ◌∷◌, length, drop, refl, ap, arith, rules}
-use Rattle.std.proofs.lemmas.List.{drop-drop, drop_more}
+use Rattle.std.proofs.lemmas.List.{drop-drop, drop_more, get_or-drop, length-drop, length-take}
 use Rattle.std.proofs.lemmas.Grind.{common_steps}
 use Rattle.std.proofs.lemmas.Bool.Decides.{nat_tests}
-use Rattle.image_format.specs.Fields.{Item, whole, short, item, items}
+use Rattle.image_format.specs.Fields.{Item, Bytes, whole, short, item, items, value_of}
 
 pub items_skip : (k : ℕ) (bs : List ℕ) → items k bs ≡ items 0 (drop k bs)
 items_skip zero bs = refl
@@ -35,3 +35,7 @@ items_whole image at t v l e = grind (arith, common_steps, drop_more, items_firs
 
 pub item_fits : (t : ℕ) (v bs : List ℕ) → whole t v ≡ item bs → 3 + length v ≤ length bs
 item_fits t v bs e = search rules
+
+-- two bytes tell the length of a value
+pub item_small : (image : List ℕ) (at : ℕ) → Bytes image → length (value_of (item (drop at image))) < 65536
+item_small image at small = grind (arith, nat_tests, get_or-drop, length-take, length-drop)

@@ -1,7 +1,7 @@
 -- The rules on names, by tests and in words. Assumes nothing.
-use Rattle.std.proofs.Common.{◌≡◌, ℕ, zero, suc, ◌<◌, Bool, true, false, cond, List, [], ◌∷◌, ◌++◌, length, get_or, All, Ok, Err, Result, sym, refl, ◌∙◌, ⊎_elim, arith, rules}
+use Rattle.std.proofs.Common.{◌≡◌, ℕ, zero, suc, ◌<◌, Bool, true, false, cond, not, if◌then◌else◌, List, [], ◌∷◌, ◌++◌, length, get_or, All, Ok, Err, Result, sym, refl, ◌∙◌, ⊎_elim, arith, rules}
 use Rattle.std.specs.Str.{bytes_eq}
-use Rattle.std.proofs.lemmas.List.Sums.{list_all-from_AllPass}
+use Rattle.std.proofs.lemmas.List.Sums.{AllPass-from_list_all, list_all-from_AllPass}
 use Rattle.std.proofs.lemmas.List.{length_push, get_or_push, get_or_append_left, get_or_at, length-append}
 use Rattle.std.proofs.lemmas.Slice.Eq.{bytes_eq-Decides}
 use Rattle.std.proofs.lemmas.Bool.{or_parts, or_from, cases_Bool}
@@ -15,6 +15,13 @@ by_answer (Err c) at_ok at_err = at_err c refl
 -- a check that is passed
 pub guard : {A E : Type 0} (b : Bool) (o : Result A E) (c : E) (x : A) → cond b (Err c) o ≡ Ok x → (b ≡ false) × (o ≡ Ok x)
 guard b o c x h = grind arith
+
+-- and so leaves the answer to the next
+pub pass_not : {A : Type 0} (b : Bool) (x y : A) → b ≡ true → (if not b then x else y) ≡ y
+pass_not b x y h = grind arith
+
+pub all_printable : (v : List ℕ) → printable v ≡ true → All Printable v
+all_printable v h = search (rules, AllPass-from_list_all)
 
 pub printable_all : (v : List ℕ) → All Printable v → printable v ≡ true
 printable_all v h = search (rules, list_all-from_AllPass)
