@@ -28,14 +28,14 @@ fn load_from<S: Source + Drop>(
     if image.len() > MAX_IMAGE {
         return Err(ImageCause::TooLong.at(MAX_IMAGE));
     }
-    let mut reading = Reading::Start(source);
+    let mut reading = Reading::new(source);
     for field in Fields::of(image) {
         let field = field?;
-        reading = reading.step(field).map_err(|cause| cause.at(field.place))?;
+        reading.step(field).map_err(|cause| cause.at(field.place))?;
     }
-    let loaded = reading.finish(image.len())?;
-    *sheet = loaded.sheet;
-    Ok(loaded.fields)
+    let fields = reading.finish(image.len())?;
+    *sheet = reading.sheet;
+    Ok(fields)
 }
 
 // Makes the sheet what the image says, and answers how many notes made it. A refusal leaves the sheet as it was.

@@ -1,6 +1,7 @@
 // What the fields of an image so far have told.
-ghost use Rattle.std.specs.Prelude.{◌≡◌, ◌+◌, ◌^◌, ◌<◌, option_map};
+ghost use Rattle.std.specs.Prelude.{◌≡◌, ◌+◌, ◌^◌, ◌<◌, map};
 ghost use Rattle.image_format.specs.Names.{given, printable};
+ghost use Rattle.image_format.specs.Images.{finished, start, step as step_to};
 
 use crate::field::Field;
 use crate::source::Source;
@@ -23,155 +24,137 @@ fn is_printable(name: &[u8]) -> bool
     name.iter().all(|byte| (b' '..=b'~').contains(byte))
 }
 
-// The limit, to which the sheet is confined, and the names so far.
-#[derive(Drop)]
-pub(crate) struct Naming<'a, S> {
-    source: S,
-    sheet: Sheet,
-    names: ArrayVec<&'a [u8], MAX_NAMES>,
+// Whether a name was given before.
+#[tactic(auto, using(crate::proofs::Given::given_map))]
+fn has(names: &ArrayVec<&[u8], MAX_NAMES>, name: &[u8]) -> bool
+    ensures { result ≡ given name.now (map (λ x. x.now) names.now.items) }
+{
+    names.contains(&name)
 }
 
-// A sheet that was opened for the names, and how many fields behind them went into it.
+// Which fields may come next, and what those so far have told.
 #[derive(Drop)]
-pub(crate) struct Noting<S> {
+pub(crate) enum Stage<'a> {
+    // None has come.
+    Start,
+    // The limit has, to which the sheet is confined, and these names.
+    Naming(ArrayVec<&'a [u8], MAX_NAMES>),
+    // The sheet was opened for the names, and so many fields behind them went into it.
+    Noting(u32),
+}
+
+// A sheet of its own, into which the fields go.
+#[derive(Drop)]
+pub(crate) struct Reading<'a, S> {
     source: S,
     pub(crate) sheet: Sheet,
-    pub(crate) fields: u32,
+    stage: Stage<'a>,
 }
 
-// Which fields may come next.
-#[derive(Drop)]
-pub(crate) enum Reading<'a, S> {
-    Start(S),
-    Naming(Naming<'a, S>),
-    Noting(Noting<S>),
-}
+impl<'a, S: Source + Drop> Reading<'a, S> {
+    ghost use Rattle.image.specs.Readings.{behind, described_at, fields_noted, limit_told, name_told, note_told, state_of, told};
 
-impl<'a, S: Source + Drop> Naming<'a, S> {
-    ghost use Rattle.image.specs.Readings.{behind, limit_told, name_told, names_of, naming_of, noting_parts, seen_by};
+    // Nothing has been read.
+    pub(crate) fn new(source: S) -> Self
+        ensures { state_of result ≡ start source }
+    {
+        Reading {
+            source,
+            sheet: Sheet::new(),
+            stage: Stage::Start,
+        }
+    }
 
     // Takes in the limit.
-    fn new(source: S, value: &[u8]) -> Result<Self, ImageCause>
-        ensures { seen_by naming_of result ≡ limit_told source value.now }
+    fn limit(&mut self, value: &[u8]) -> Result<(), ImageCause>
+        ensures { told result (state_of self.new) ≡ limit_told (state_of self.old) value.now }
     {
+        let Stage::Start = self.stage else {
+            return Err(ImageCause::Tag);
+        };
         let &[limit] = value else {
             return Err(ImageCause::Length);
         };
-        let mut sheet = Sheet::new();
-        sheet.confine(limit)?;
-        Ok(Naming {
-            source,
-            sheet,
-            names: ArrayVec::new(),
-        })
-    }
-
-    // Whether a name was given before.
-    #[tactic(auto, using(crate::proofs::Given::given_map))]
-    fn has(&self, name: &[u8]) -> bool
-        ensures { result ≡ given name.now (names_of self.now) }
-    {
-        self.names.contains(&name)
+        self.sheet.confine(limit)?;
+        self.stage = Stage::Naming(ArrayVec::new());
+        Ok(())
     }
 
     // Takes in a name.
-    fn push(mut self, name: &'a [u8]) -> Result<Self, ImageCause>
-        ensures { seen_by naming_of result ≡ name_told self.entry name.now }
+    fn name(&mut self, name: &'a [u8]) -> Result<(), ImageCause>
+        ensures { told result (state_of self.new) ≡ name_told (state_of self.old) name.now }
     {
+        let Stage::Naming(names) = &mut self.stage else {
+            return Err(ImageCause::Tag);
+        };
         if !(1..=MAX_NAME).contains(&name.len()) {
             return Err(ImageCause::Length);
         }
-        if self.names.is_full() {
+        if names.is_full() {
             return Err(Fault::Alarms.into());
         }
         if !is_printable(name) {
             return Err(ImageCause::NameByte);
         }
-        if self.has(name) {
+        if has(names, name) {
             return Err(ImageCause::SameName);
         }
-        self.names.push(name);
-        Ok(self)
+        names.push(name);
+        Ok(())
     }
 
-    // Opens the sheet for the names, if there are any.
-    fn open(self) -> Option<Noting<S>>
-        ensures { option_map noting_parts result ≡ behind (naming_of self.entry) }
+    // Opens the sheet for the names, if there are any and it is not open.
+    fn open(&mut self)
+        ensures { state_of self.new ≡ behind (state_of self.old) }
     {
-        let Naming {
-            source,
-            mut sheet,
-            names,
-        } = self;
-        let alarms = u8::try_from(names.len()).ok()?;
-        sheet.open(alarms, sheet.limit()).ok()?;
-        Some(Noting {
-            source,
-            sheet,
-            fields: 0,
-        })
-    }
-}
-
-impl<S: Source + Drop> Noting<S> {
-    ghost use Rattle.image.specs.Readings.{note_told, noting_of, noting_parts, seen_by};
-
-    // Takes in a field behind the names.
-    fn take(mut self, value: &[u8]) -> Result<Self, ImageCause>
-        requires { self.fields + 1 < 2 ^ 32 }
-        ensures { seen_by noting_of result ≡ note_told S.Source.kind (noting_parts self) value.now }
-    {
-        self.source.take(&mut self.sheet, value)?;
-        self.fields += 1;
-        Ok(self)
-    }
-}
-
-impl<'a, S: Source + Drop> Reading<'a, S> {
-    ghost use Rattle.image_format.specs.Images.{finished, step as step_to};
-    ghost use Rattle.image.specs.Readings.{behind, described_by, fields_noted, noted_behind, noting_parts, seen_by, state_of};
-
-    // The sheet behind the names, if there are any.
-    fn opened(self) -> Option<Noting<S>>
-        ensures { option_map noting_parts result ≡ behind (state_of self.entry) }
-    {
-        match self {
-            Reading::Start(_) => None,
-            Reading::Naming(naming) => naming.open(),
-            Reading::Noting(noting) => Some(noting),
+        let Stage::Naming(names) = &self.stage else {
+            return;
+        };
+        let Ok(alarms) = u8::try_from(names.len()) else {
+            return;
+        };
+        if self.sheet.open(alarms, self.sheet.limit()).is_ok() {
+            self.stage = Stage::Noting(0);
         }
     }
 
     // Takes in a field behind the names.
-    fn note(self, value: &[u8]) -> Result<Self, ImageCause>
-        requires { fields_noted (state_of self) + 1 < 2 ^ 32 }
-        ensures { seen_by state_of result ≡ noted_behind S.Source.kind (behind (state_of self.entry)) value.now }
+    fn note(&mut self, value: &[u8]) -> Result<(), ImageCause>
+        requires { fields_noted (state_of self.old) + 1 < 2 ^ 32 }
+        ensures { told result (state_of self.new) ≡ note_told S.Source.kind (behind (state_of self.old)) value.now }
     {
-        let noting = self.opened().ok_or(ImageCause::Tag)?;
-        Ok(Reading::Noting(noting.take(value)?))
+        self.open();
+        let Stage::Noting(fields) = &mut self.stage else {
+            return Err(ImageCause::Tag);
+        };
+        self.source.take(&mut self.sheet, value)?;
+        *fields += 1;
+        Ok(())
     }
 
     // Takes in a field.
-    pub(crate) fn step(self, field: Field<'a>) -> Result<Self, ImageCause>
-        requires { fields_noted (state_of self) + 1 < 2 ^ 32 }
-        ensures { seen_by state_of result ≡ step_to S.Source.kind (state_of self.entry) field.entry.tag field.entry.value.now }
+    pub(crate) fn step(&mut self, field: Field<'a>) -> Result<(), ImageCause>
+        requires { fields_noted (state_of self.old) + 1 < 2 ^ 32 }
+        ensures { told result (state_of self.new) ≡ step_to S.Source.kind (state_of self.old) field.entry.tag field.entry.value.now }
     {
         if field.tag == S::tag() {
             return self.note(field.value);
         }
-        match (self, field.tag) {
-            (Reading::Start(source), LIMIT_TAG) => {
-                Naming::new(source, field.value).map(Reading::Naming)
-            }
-            (Reading::Naming(naming), NAME_TAG) => naming.push(field.value).map(Reading::Naming),
+        match field.tag {
+            LIMIT_TAG => self.limit(field.value),
+            NAME_TAG => self.name(field.value),
             _ => Err(ImageCause::Tag),
         }
     }
 
-    // Ends the reading where the image ends.
-    pub(crate) fn finish(self, place: usize) -> Result<Noting<S>, ImageFault>
-        ensures { seen_by described_by result ≡ finished (state_of self.entry) place }
+    // Ends the reading where the image ends, and answers how many fields behind the names there were.
+    pub(crate) fn finish(&mut self, place: usize) -> Result<u32, ImageFault>
+        ensures { described_at self.new result ≡ finished (state_of self.old) place }
     {
-        self.opened().ok_or(ImageCause::NoName.at(place))
+        self.open();
+        match self.stage {
+            Stage::Noting(fields) => Ok(fields),
+            _ => Err(ImageCause::NoName.at(place)),
+        }
     }
 }
