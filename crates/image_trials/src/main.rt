@@ -4,7 +4,6 @@
 mod cases;
 mod images;
 
-use anyhow::Result;
 use cases::Case;
 use image::load;
 use image_format::ImageFault;
@@ -72,7 +71,7 @@ fn show_group(
     heading: &str,
     front: &str,
     cases: &[Case],
-) -> Result<()> {
+) -> io::Result<()> {
     println!(rt; "{heading}")?;
     for (label, rest) in cases {
         show(rt, label, &images::joined(rt.alloc(), front, rest)?)?;
@@ -81,7 +80,7 @@ fn show_group(
 }
 
 // Shows the groups of short images.
-fn show_groups(rt: &(impl Print + AllocGlobal)) -> Result<()> {
+fn show_groups(rt: &(impl Print + AllocGlobal)) -> io::Result<()> {
     for (heading, front, cases) in cases::GROUPS {
         show_group(rt, heading, front, cases)?;
     }
@@ -89,7 +88,7 @@ fn show_groups(rt: &(impl Print + AllocGlobal)) -> Result<()> {
 }
 
 // Shows the front of the ring's image, of each length.
-fn show_fronts(rt: &(impl Print + AllocGlobal)) -> Result<()> {
+fn show_fronts(rt: &(impl Print + AllocGlobal)) -> io::Result<()> {
     println!(rt; "The front of the ring")?;
     let image = images::joined(rt.alloc(), cases::RING, "")?;
     for length in 0..=image.len() {
@@ -105,15 +104,14 @@ fn show_edit(
     part: u8,
     bytes: &[u8],
     what: &str,
-) -> Result<()> {
+) -> io::Result<()> {
     let mut image = images::joined(rt.alloc(), cases::RING, "")?;
     images::overwrite(&mut image, usize::from(field) + usize::from(part), bytes);
-    show(rt, format_args!("field at {field}, {what}"), &image)?;
-    Ok(())
+    show(rt, format_args!("field at {field}, {what}"), &image)
 }
 
 // Shows the ring's image with a bit of one field's tag or length the other way round.
-fn show_headers(rt: &(impl Print + AllocGlobal)) -> Result<()> {
+fn show_headers(rt: &(impl Print + AllocGlobal)) -> io::Result<()> {
     println!(rt; "The ring with one header changed")?;
     for (field, tag, length) in RING_FIELDS {
         show_edit(rt, field, 0, &[tag ^ 4], "tag flipped")?;
@@ -124,7 +122,7 @@ fn show_headers(rt: &(impl Print + AllocGlobal)) -> Result<()> {
 }
 
 // Shows the ring's image with one count that no note may have.
-fn show_counts(rt: &(impl Print + AllocGlobal)) -> Result<()> {
+fn show_counts(rt: &(impl Print + AllocGlobal)) -> io::Result<()> {
     println!(rt; "The ring with one count changed")?;
     for field in RING_NOTES {
         show_edit(rt, field, 5, &[0x7f, 0xff], "counter pinned")?;
@@ -134,7 +132,7 @@ fn show_counts(rt: &(impl Print + AllocGlobal)) -> Result<()> {
 }
 
 // Shows images with as many names as there may be, with one more, and with a name whose length takes two bytes.
-fn show_names(rt: &(impl Print + AllocGlobal)) -> Result<()> {
+fn show_names(rt: &(impl Print + AllocGlobal)) -> io::Result<()> {
     println!(rt; "Many names and a long one")?;
     let mut image = images::named(rt.alloc(), 64)?;
     show(rt, "64 names", &image)?;
@@ -147,34 +145,31 @@ fn show_names(rt: &(impl Print + AllocGlobal)) -> Result<()> {
     show(rt, "65 names", &images::named(rt.alloc(), 65)?)?;
     let mut image = images::joined(rt.alloc(), cases::LIMIT, "")?;
     images::push_field(&mut image, 2, &[b'P'; 257])?;
-    show(rt, "a name of 257 bytes", &image)?;
-    Ok(())
+    show(rt, "a name of 257 bytes", &image)
 }
 
 // Shows images as long as they may be, and one byte longer.
-fn show_long(rt: &(impl Print + AllocGlobal)) -> Result<()> {
+fn show_long(rt: &(impl Print + AllocGlobal)) -> io::Result<()> {
     println!(rt; "Long images")?;
     show_sized(rt, &images::long(rt.alloc(), b"Pump 2")?, "")?;
     let mut image = images::long(rt.alloc(), b"Pump 22")?;
     show_sized(rt, &image, "")?;
     images::overwrite(&mut image, 0, &[9]);
-    show_sized(rt, &image, ", the first of them 9")?;
-    Ok(())
+    show_sized(rt, &image, ", the first of them 9")
 }
 
 // Shows images with as many pairs as there may be, and with one more.
-fn show_pairs(rt: &(impl Print + AllocGlobal)) -> Result<()> {
+fn show_pairs(rt: &(impl Print + AllocGlobal)) -> io::Result<()> {
     println!(rt; "Many pairs")?;
     let mut image = images::paired(rt.alloc(), 512)?;
     show(rt, "512 pairs", &image)?;
     images::push_note(&mut image, 0, 32)?;
     show(rt, "512 pairs and the first again", &image)?;
-    show(rt, "513 pairs", &images::paired(rt.alloc(), 513)?)?;
-    Ok(())
+    show(rt, "513 pairs", &images::paired(rt.alloc(), 513)?)
 }
 
 // Shows every kind of image in turn.
-fn main(rt: HostRuntime) -> Result<()> {
+fn main(rt: HostRuntime) -> io::Result<()> {
     show_groups(&rt)?;
     show_fronts(&rt)?;
     show_headers(&rt)?;
