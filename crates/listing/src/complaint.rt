@@ -1,33 +1,41 @@
 // The line that tells a refusal.
-ghost use Rattle.std.specs.Prelude.{◌≡◌};
+ghost use Rattle.std.specs.Prelude.{◌≡◌, ◌++◌, length, codes};
 ghost use Rattle.listing.specs.Complaints.{complaint};
 ghost use Rattle.listing.specs.Writes.{Writes};
 
-use crate::text::write_text;
-use arrayvec::ArrayString;
-use image_format::ImageFault;
+use image_format::{ImageCause, ImageFault};
 use itoa::Buffer;
 
-// The most bytes of a line: `refused `, a number of 3 digits, ` at `, a place of 20 digits, and a line feed.
-const LINE: usize = 8 + 3 + 4 + 20 + 1;
+// The bytes of `refused `, ` at ` and a line feed.
+const WORDS: usize = 8 + 4 + 1;
 
 // Writes the line that tells a refusal to the front of a buffer, and answers its length.
 pub fn complain(fault: &ImageFault, out: &mut [u8]) -> Result<usize, ImageFault>
     ensures { Writes (complaint fault.now) out.old result out.new }
 {
-    write_text(line(fault).as_str(), out)
+    let (mut number, mut place) = (Buffer::new(), Buffer::new());
+    let number = number.format(fault.number());
+    let place = place.format(fault.place);
+    let length = WORDS + number.len() + place.len();
+    if out.len() < length {
+        return Err(ImageCause::ShortBuffer.at(0));
+    }
+    write_line(number, place, &mut out[..length]);
+    Ok(length)
 }
 
-// The line that tells a refusal. What `write!` promises does not say when it succeeds, so the line is joined from its parts.
-fn line(fault: &ImageFault) -> ArrayString<LINE>
-    ensures { result.bytes ≡ complaint fault.now }
+// Writes the line of two numbers over a part of a buffer that is as long as the line.
+fn write_line(number: &str, place: &str, line: &mut [u8])
+    requires { length line.old ≡ length (codes "refused " ++ number.now ++ codes " at " ++ place.now ++ codes "\n") }
+    ensures { line.new ≡ codes "refused " ++ number.now ++ codes " at " ++ place.now ++ codes "\n" }
 {
-    let mut digits = Buffer::new();
-    let mut line = ArrayString::new();
-    line.push_str("refused ");
-    line.push_str(digits.format(fault.number()));
-    line.push_str(" at ");
-    line.push_str(digits.format(fault.place));
-    line.push('\n');
-    line
+    let (refused, rest) = line.split_at_mut(8);
+    refused.copy_from_slice(b"refused ");
+    let (numbered, rest) = rest.split_at_mut(number.len());
+    numbered.copy_from_slice(number.as_bytes());
+    let (at, rest) = rest.split_at_mut(4);
+    at.copy_from_slice(b" at ");
+    let (placed, end) = rest.split_at_mut(place.len());
+    placed.copy_from_slice(place.as_bytes());
+    end.copy_from_slice(b"\n");
 }

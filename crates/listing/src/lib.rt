@@ -3,7 +3,6 @@
 
 mod complaint;
 mod laws;
-mod text;
 
 pub use complaint::complain;
 pub use laws::text_laws;
