@@ -1,17 +1,20 @@
 // Reads an image from standard input, and prints what it holds, or why and where it is refused.
 #![tactic(auto)]
 
-ghost use Rattle.std.specs.Prelude.{◌≡◌, ◌↔◌, IsOk};
+ghost use Rattle.std.specs.Prelude.{◌≡◌, ◌↔◌, IsOk, OnOk};
+ghost use Rattle.std.specs.Io.KnownBytes.{Appends};
 ghost use Rattle.sheet.specs.Sheets.{book_of};
 ghost use Rattle.charge.specs.Charges.{plain};
 ghost use Rattle.charge.specs.Prices.{priced};
+ghost use Rattle.listing.specs.Complaints.{complaint};
 ghost use Rattle.image_summary.specs.Summaries.{FitsTop, SumsUp, all_on_top, top_cost};
 
 use charge::{Plain, price};
 use image::{MAX_IMAGE, load};
 use image_format::ImageFault;
+use listing::complain;
 use sheet::{Fault, MAX_ALARMS, Sheet};
-use std::io::Read;
+use std::io::{Read, Write};
 use std::{fmt, io};
 
 // What is told of a good image.
@@ -67,6 +70,18 @@ fn summarize(image: &[u8]) -> Result<Summary, ImageFault>
     })
 }
 
+// Writes the line that tells a refusal, and nothing else.
+#[tactic(auto, using(crate::proofs::Complaints::complaint_short))]
+fn write_complaint<W: Write>(out: &mut W, fault: ImageFault) -> io::Result<()>
+    ensures { OnOk result (Appends (W.contents out.old) (W.contents out.new) (complaint fault)) }
+{
+    let mut line = [0; 64];
+    let Ok(length) = complain(&fault, &mut line) else {
+        unreachable!();
+    };
+    out.write_all(&line[..length])
+}
+
 fn main(rt: HostRuntime) -> io::Result<()> {
     let mut image = Vec::new(rt.alloc());
     rt.stdin()
@@ -74,6 +89,6 @@ fn main(rt: HostRuntime) -> io::Result<()> {
         .read_to_end(&mut image)?;
     match summarize(&image) {
         Ok(summary) => println!(rt; "{summary}"),
-        Err(fault) => println!(rt; "{fault}"),
+        Err(fault) => write_complaint(&mut rt.stdout(), fault),
     }
 }
