@@ -9,7 +9,7 @@ use sheet::Fault;
 
 #[derive(Clone, Copy, Debug, PartialEq, Eq)]
 pub struct OwnRow {
-    row: [u8; DISTANCES],
+    row: [u16; DISTANCES],
     ghost fair: { Fair row },
 }
 
@@ -40,7 +40,6 @@ impl OwnRow {
         if !is_convex(&row) {
             return Err(Fault::NotConvex);
         }
-        let row = narrowed(&row);
         *self = OwnRow { row };
         Ok(())
     }
@@ -64,7 +63,7 @@ impl Charge for OwnRow {
     ghost fair = { λ own. own.fair };
 
     fn at(&self, d: u8) -> u8 {
-        self.row[usize::from(d.min(MAX_DISTANCE))]
+        self.row[usize::from(d.min(MAX_DISTANCE))] as u8
     }
 }
 
@@ -76,18 +75,6 @@ fn is_small(numbers: &[u16]) -> bool
     numbers
         .iter()
         .all(|&number| number <= u16::from(MAX_CHARGE))
-}
-
-// The numbers as bytes.
-fn narrowed(numbers: &[u16; DISTANCES]) -> [u8; DISTANCES]
-    requires { Small numbers.now }
-    ensures { result ≡ numbers.now }
-{
-    let mut row = [0; DISTANCES];
-    for d in 0..DISTANCES {
-        row[d] = numbers[d] as u8;
-    }
-    row
 }
 
 // Whether no step of the row is smaller than the one before it, the first counted from 0.
