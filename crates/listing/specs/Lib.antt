@@ -1,3 +1,4 @@
 pub mod Writes
 pub mod Complaints
 pub mod Laws
+pub mod Puts
